@@ -1,0 +1,5 @@
+-- The laws of bytes, sums and sealed blocks, for this crate's proofs and for crates above. Assumes nothing.
+pub mod Numbers
+pub mod Totals
+pub mod Blocks
+pub mod Examples

@@ -1,0 +1,3 @@
+-- The definitions that the contracts of `block` cite. Assumes nothing.
+pub mod Little
+pub mod Sums

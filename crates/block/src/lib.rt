@@ -1,0 +1,89 @@
+// A block of 512 bytes: 254 words of 16 bits, and two words that check them.
+ghost use mathlib.Core.Path.{_≡_};
+ghost use mathlib.Core.List.{_++_};
+ghost use Prim.Native.Nat.{_+_, _%_, _<_, _≤_};
+ghost use lib.ListN.{length, take, drop};
+ghost use Rattle.block.specs.Little.{bytesOf, numberAt};
+ghost use Rattle.block.specs.Sums.{plainOf, weightedOf, blockGood, sealed};
+
+// The two sums, each below 65535.
+pub struct Sums {
+    pub plain: u32,
+    pub weighted: u32,
+}
+
+fn wide(x: u8) -> u32
+    ensures { λ r. ⌜ (r ≡ x) × (x < 256) ⌝ }
+{
+    x as u32
+}
+
+// The word in the two bytes at `at`.
+pub fn word_at(s: &[u8], at: usize) -> u32
+    requires { ⌜ at + 2 ≤ length (now s) ⌝ }
+    ensures { λ r. ⌜ (r ≡ numberAt 2 at (now (s .entry))) × (r < 65536) ⌝ }
+{
+    let low = wide(s[at]);
+    let high = wide(s[at + 1]);
+    low + 256 * high
+}
+
+// Stores the word `x` in the two bytes at `at`.
+pub fn put_word(s: &mut [u8], at: usize, x: u32)
+    requires { ⌜ (at + 2 ≤ length (now s)) × (x < 65536) ⌝ }
+    ensures { λ _. ⌜ now (s .exit) ≡ take at (now (s .entry)) ++ bytesOf 2 x ++ drop (at + 2) (now (s .entry)) ⌝ }
+{
+    s[at] = (x % 256) as u8;
+    s[at + 1] = (x / 256) as u8;
+}
+
+// A function of its own, so that another way to reduce moves nothing else.
+fn reduced(x: u32) -> u32
+    ensures { λ r. ⌜ r ≡ x % 65535 ⌝ }
+{
+    x % 65535
+}
+
+// Both sums fit 32 bits before they are reduced: no turn of the loop divides or branches, and it runs on whole vectors.
+// Bytes past 508 aren't read, so that a writer can fill the sums in afterwards.
+pub fn sums_of(s: &[u8]) -> Sums
+    requires { ⌜ 508 ≤ length (now s) ⌝ }
+    ensures { λ r. ⌜ (r .plain ≡ plainOf (now (s .entry))) × (r .weighted ≡ weightedOf (now (s .entry))) ⌝ }
+{
+    let mut plain: u32 = 0;
+    let mut weighted: u32 = 0;
+    let mut weight: u32 = 254;
+    let mut i: usize = 0;
+    while i < 254 {
+        let w = word_at(s, 2 * i);
+        plain = plain + w;
+        weighted = weighted + weight * w;
+        weight = weight - 1;
+        i = i + 1;
+    }
+    Sums {
+        plain: reduced(plain),
+        weighted: reduced(weighted),
+    }
+}
+
+// Whether the block's two stored words are its sums.
+pub fn good(s: &[u8]) -> bool
+    requires { ⌜ length (now s) ≡ 512 ⌝ }
+    ensures { λ r. ⌜ r ≡ blockGood (now (s .entry)) ⌝ }
+{
+    let t = sums_of(s);
+    let plain = word_at(s, 508);
+    let weighted = word_at(s, 510);
+    (plain == t.plain) & (weighted == t.weighted)
+}
+
+// Writes the sums of the first 508 bytes behind them.
+pub fn seal(s: &mut [u8])
+    requires { ⌜ length (now s) ≡ 512 ⌝ }
+    ensures { λ _. ⌜ now (s .exit) ≡ sealed (take 508 (now (s .entry))) ⌝ }
+{
+    let t = sums_of(s);
+    put_word(s, 508, t.plain);
+    put_word(s, 510, t.weighted);
+}

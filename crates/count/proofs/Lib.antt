@@ -1,0 +1,3 @@
+-- What the proofs of several functions use, and what callers may cite.
+pub mod Laws
+mod Steps

@@ -1,0 +1,3 @@
+-- The definitions that the contracts of `count` cite.
+pub mod Hits
+pub mod Cuts

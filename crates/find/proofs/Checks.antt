@@ -1,0 +1,77 @@
+-- The laws of the tests that come before an answer.
+--     denied, granted     what a call's promise says where its answer was tested
+--     and-parts           two tests that hold together
+--     settings-refused, level-refused, range-refused, none-refused    the refusals 1, 3, 2 in this order, and the answer after them
+--     unless-told, all-told     an answer says that the tests held
+--     range-facts     a range's test as facts
+--     within-range, within-cell     what passes the tests is what the inner calls take
+-- Assumes nothing.
+use mathlib.Core.Path.{_≡_, refl, sym, _∙_}
+use mathlib.Core.Bool.{Bool, true, false, not, _&&_, false≢true}
+use mathlib.Core.List.{List}
+use Prim.Native.Nat.{ℕ, _≤_}
+use native.Mathlib.Omega.{arith}
+use lib.Dec.{leb}
+use borrow.Author.Tests.{leb-true, not-true, not-false}
+use Rattle.rule.specs.declared.Settings.{Settings}
+use Rattle.rule.specs.Rule.{isGood, top}
+use Rattle.rule.specs.Refusals.{Paper, answered, refused, unless, badSettings, badLevel, badRange}
+use Rattle.rule.proofs.Facts.{good-facts}
+use Rattle.find.specs.Finding.{isCell, inRange, atLevel, Within}
+
+-- t is the call's answer, and d what it is promised to be
+pub denied : (t d : Bool) → t ≡ d → not t ≡ true → d ≡ false
+denied t d e n = sym e ∙ not-true t n
+
+pub granted : (t d : Bool) → t ≡ d → not t ≡ false → d ≡ true
+granted t d e n = sym e ∙ not-false t n
+
+pub and-parts : (t u : Bool) → (t && u) ≡ true → (t ≡ true) × (u ≡ true)
+and-parts true u e = (refl, e)
+and-parts false u e = absurd (false≢true e)
+
+module _ (s : Settings) (level : ℕ) where
+  pub settings-refused : (x : Paper) → isGood s ≡ false → refused badSettings 0 ≡ atLevel s level x
+  settings-refused x g = cc
+
+  pub level-refused : (x : Paper) → isGood s ≡ true → leb level (top s) ≡ false → refused badLevel 0 ≡ atLevel s level x
+  level-refused x g l = cc
+
+  pub range-refused : (t : Bool) (x : Paper) → isGood s ≡ true → leb level (top s) ≡ true → t ≡ false → refused badRange 0 ≡ atLevel s level (unless t badRange x)
+  range-refused t x g l r = cc
+
+  pub none-refused : (t : Bool) (x : Paper) → isGood s ≡ true → leb level (top s) ≡ true → t ≡ true → x ≡ atLevel s level (unless t badRange x)
+  none-refused t x g l r = cc
+
+pub unless-told : (t : Bool) (number : ℕ) (x : Paper) (values : List ℕ) → unless t number x ≡ answered values → (t ≡ true) × (x ≡ answered values)
+unless-told true number x values e = (refl, e)
+unless-told false number x values e = let z : _≡_ {A = ℕ} 0 1 = cc in absurd (omega arith)
+
+pub all-told : (s : Settings) (level : ℕ) (t : Bool) (x : Paper) (values : List ℕ) → atLevel s level (unless t badRange x) ≡ answered values
+    → (isGood s ≡ true) × (leb level (top s) ≡ true) × (t ≡ true) × (x ≡ answered values)
+all-told s level t x values e =
+    let g = unless-told (isGood s) badSettings (unless (leb level (top s)) badLevel (unless t badRange x)) values e in
+    let l = unless-told (leb level (top s)) badLevel (unless t badRange x) values (g .1) in
+    let r = unless-told t badRange x values (l .1) in
+    (g .0, l .0, r .0, r .1)
+
+pub range-facts : (s : Settings) (lo hi : ℕ) → inRange s lo hi ≡ true → (1 ≤ lo) × (lo ≤ hi) × (hi ≤ s .n)
+range-facts s lo hi e =
+    let low = and-parts (leb 1 lo) (leb lo hi && leb hi (s .n)) e in
+    let rest = and-parts (leb lo hi) (leb hi (s .n)) (low .1) in
+    (leb-true 1 lo (low .0), leb-true lo hi (rest .0), leb-true hi (s .n) (rest .1))
+
+pub within-range : (s : Settings) (lo hi : ℕ) → isGood s ≡ true → inRange s lo hi ≡ true → Within s lo hi
+within-range s lo hi g e =
+    let f = range-facts s lo hi e in
+    record { good = good-facts s g; low = f .0; start = omega (arith, f .1); last = f .2 }
+
+pub within-cell : (s : Settings) (x : ℕ) → isGood s ≡ true → isCell s x ≡ true → Within s x (s .n)
+within-cell s x g e =
+    let cell = and-parts (leb 1 x) (leb x (s .n)) e in
+    record {
+      good = good-facts s g;
+      low = leb-true 1 x (cell .0);
+      start = omega (arith, leb-true x (s .n) (cell .1));
+      last = omega arith;
+    }

@@ -1,0 +1,121 @@
+-- The kitchen tests of document 01 that are marked: inputs and expected values as data, and what each row says. Assumes nothing: these are definitions.
+use Prim.Native.Nat.{ℕ}
+use mathlib.Core.Path.{_≡_}
+use mathlib.Core.Bool.{Bool, true, false, _&&_, not}
+use mathlib.Core.List.{List, [], _∷_}
+use lib.Dec.{eqb}
+use lib.IntN.{pos}
+use lib.Ieee.{binary64, ofInt}
+use Rattle.rule.specs.declared.Settings.{Settings}
+use Rattle.rule.specs.Cells.{filter, range}
+use Rattle.rule.specs.Rule.{hash, region, passes, top}
+use Rattle.rule.specs.Rows.{pad}
+use Rattle.rule.specs.Refusals.{Paper, answered, refused}
+use Rattle.find.specs.Finding.{countOn}
+use Rattle.sketch.specs.declared.Sketch.{Sketch}
+use Rattle.sketch.specs.Sketches.{isSketch, cellsOf, opened, add}
+use Rattle.sketch.specs.Calls.{openOn}
+use Rattle.sketch.specs.Estimates.{standsFor, estimateOf}
+use Rattle.sketch.specs.declared.estimates.Estimate.the-variants.{About}
+use Rattle.block.specs.Sums.{plainOf, weightedOf}
+
+abbrev pub settings : ℕ → ℕ → ℕ → ℕ → ℕ → Settings
+settings n p a b capacity = record { n = n; p = p; a = a; b = b; capacity = capacity }
+
+-- settings Q
+abbrev pub q : Settings
+q = settings 10 101 37 5 16
+
+-- a row: what is asked, and what is expected
+pub data Row : Type 0 where
+  hashes : Settings → List ℕ → Row
+  regions : Settings → List ℕ → ℕ → Row
+  passed : Settings → ℕ → List ℕ → Row
+  counted : Settings → ℕ → ℕ → ℕ → ℕ → Row
+  opening : Settings → Paper → Row
+  adding : Settings → ℕ → ℕ → ℕ → List ℕ → ℕ → Row
+  checked : List ℕ → ℕ → ℕ → Row
+
+abbrev pub each : (ℕ → ℕ) → List ℕ → List ℕ
+each f [] = []
+each f (x ∷ xs) = f x ∷ each f xs
+
+-- the sketch after opening and adding lo..hi
+abbrev pub added : Settings → ℕ → ℕ → Sketch
+added s lo hi = add (opened s) lo hi
+
+-- what a row says
+abbrev pub Says : Row → Type 0
+-- the hashes of 1..n
+Says (hashes s hs) = each (hash s) (range 1 (s .n)) ≡ hs
+-- the regions from level 0 to the top
+Says (regions s rs t) = (each (region s) (range 0 (top s)) ≡ rs) × (top s ≡ t)
+-- the cells of 1..n that pass at a level
+Says (passed s level xs) = filter (passes s level) (range 1 (s .n)) ≡ xs
+-- the range count at a level over lo..hi
+Says (counted s level lo hi v) = countOn s level lo hi ≡ answered (v ∷ [])
+-- the answer to opening
+Says (opening s paper) = openOn s ≡ paper
+-- opening and adding lo..hi: the level, the cells, and the estimate: about m
+Says (adding s lo hi level xs m) = (added s lo hi .level ≡ level) × (cellsOf (added s lo hi) ≡ xs) × (estimateOf (added s lo hi) ≡ About (ofInt binary64 (pos m)))
+-- the check words of a block that begins with these bytes
+Says (checked bytes plain weighted) = (plainOf (pad 508 bytes) ≡ plain) × (weightedOf (pad 508 bytes) ≡ weighted)
+
+abbrev pub table : List Row
+table =
+    -- 1
+    hashes q (42 ∷ 79 ∷ 15 ∷ 52 ∷ 89 ∷ 25 ∷ 62 ∷ 99 ∷ 35 ∷ 72 ∷ []) ∷
+    -- 2
+    regions q (101 ∷ 50 ∷ 25 ∷ 12 ∷ 6 ∷ 3 ∷ 1 ∷ []) 6 ∷
+    -- 3
+    passed q 1 (1 ∷ 3 ∷ 6 ∷ 9 ∷ []) ∷
+    passed q 2 (3 ∷ []) ∷
+    -- 4
+    counted q 3 1 10 0 ∷
+    -- 5
+    counted (settings 10 101 100 0 16) 1 1 10 0 ∷
+    -- 6
+    passed (settings 10 101 1 0 16) 4 (1 ∷ 2 ∷ 3 ∷ 4 ∷ 5 ∷ []) ∷
+    -- 7
+    adding (settings 10 101 1 0 1) 1 10 6 [] 0 ∷
+    -- 8
+    adding (settings 10 101 1 100 1) 1 10 6 (1 ∷ []) 64 ∷
+    -- 9
+    checked (1 ∷ 0 ∷ 1 ∷ 0 ∷ 1 ∷ 0 ∷ 0 ∷ 0 ∷ []) 3 759 ∷
+    -- 10
+    opening (settings 10 99 37 5 16) (refused 1 0) ∷
+    opening (settings 10 201 37 5 16) (refused 1 0) ∷
+    opening (settings 10 100 3 5 16) (answered []) ∷
+    opening (settings 10 100 50 5 16) (refused 1 0) ∷ []
+
+-- the test of a row, computed
+abbrev pub sameList : List ℕ → List ℕ → Bool
+sameList [] [] = true
+sameList [] (y ∷ ys) = false
+sameList (x ∷ xs) [] = false
+sameList (x ∷ xs) (y ∷ ys) = eqb x y && sameList xs ys
+
+abbrev pub samePaper : Paper → Paper → Bool
+samePaper (answered xs) (answered ys) = sameList xs ys
+samePaper (answered xs) (refused n b) = false
+samePaper (refused n b) (answered ys) = false
+samePaper (refused n b) (refused m c) = eqb n m && eqb b c
+
+unfoldable pub holds : Row → Bool
+holds (hashes s hs) = sameList (each (hash s) (range 1 (s .n))) hs
+holds (regions s rs t) = sameList (each (region s) (range 0 (top s))) rs && eqb (top s) t
+holds (passed s level xs) = sameList (filter (passes s level) (range 1 (s .n))) xs
+holds (counted s level lo hi v) = samePaper (countOn s level lo hi) (answered (v ∷ []))
+holds (opening s paper) = samePaper (openOn s) paper
+holds (adding s lo hi level xs m) =
+    eqb (added s lo hi .level) level && (sameList (cellsOf (added s lo hi)) xs && (isSketch (added s lo hi) && (not (eqb (added s lo hi .level) 0) && eqb (standsFor (added s lo hi)) m)))
+holds (checked bytes plain weighted) = eqb (plainOf (pad 508 bytes)) plain && eqb (weightedOf (pad 508 bytes)) weighted
+
+-- every row of a table
+abbrev pub allHold : List Row → Bool
+allHold [] = true
+allHold (r ∷ rs) = holds r && allHold rs
+
+abbrev pub AllSay : List Row → Type 0
+AllSay [] = Unit {0}
+AllSay (r ∷ rs) = Says r × AllSay rs

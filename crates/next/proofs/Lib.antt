@@ -1,0 +1,3 @@
+-- What callers cite, and what the proofs of the functions use. Assumes nothing.
+pub mod Laws
+mod Steps

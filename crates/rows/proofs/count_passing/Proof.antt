@@ -1,0 +1,87 @@
+-- `rows::count_passing` meets its contract. Assumes nothing.
+use Prim.Native.Nat.{_-_, _<_, _≤_}
+use mathlib.Core.Path.{_≡_, refl}
+use native.Mathlib.Omega.{arith}
+use lib.ListN.{length, take}
+use lib.Seq.{take-all}
+use Rattle.rule.specs.Cells.{filter}
+use Rattle.rule.specs.Rule.{passes}
+use Rattle.rule.proofs.Steps.{filter-on, filter-off, length-more}
+use Rattle.rows.proofs.Walks.{passes-on, passes-off}
+use Rattle.rows.proofs.count_passing.Statement.{statement}
+use Rattle.rows.proofs.count_passing.Tie as tie
+
+abbrev Inv-loop : tie.InvT-loop
+Inv-loop settings level row size many₀ i₀ many i = (i ≤ length row) × (many ≤ i) × (many ≡ length (filter (passes settings level) (take i row)))
+
+abbrev μ-loop : tie.MeasureT-loop
+μ-loop settings level row size many₀ i₀ many i = length row - i
+
+region-requires : tie.Need-region-requires Inv-loop μ-loop
+region-requires c κs = omega arith
+
+loop-holds : tie.Need-loop-holds Inv-loop μ-loop
+loop-holds c = (omega arith, omega arith, refl)
+
+mul-x : tie.Need-mul-x Inv-loop μ-loop
+mul-x c = omega arith
+
+shared-slice-read-x : tie.Need-shared-slice-read-x Inv-loop μ-loop
+shared-slice-read-x c = omega arith
+
+add-i : tie.Need-add-i Inv-loop μ-loop
+add-i c = omega arith
+
+hash-requires : tie.Need-hash-requires Inv-loop μ-loop
+hash-requires c κs = omega arith
+
+add-many : tie.Need-add-many Inv-loop μ-loop
+add-many c = omega arith
+
+loop-less : tie.Need-loop-less Inv-loop μ-loop
+loop-less c = omega arith
+
+loop-again : tie.Need-loop-again Inv-loop μ-loop
+loop-again c =
+    let a = c .before .before .before .before .before .before .before .args in
+    let l = c .before .before .before .before .loop in
+    let h : l .i < length (a .row .now) = omega arith in
+    let e = filter-on (passes (a .settings) (a .level)) (a .row .now) (l .i) h (passes-on (a .settings) (a .level) _ _ _ (c .before .hash .ensures) (c .before .before .before .before .before .region .ensures) (c .if1 .taken)) in
+    (omega arith, omega arith, rw (e, length-more) (omega arith))
+
+loop-less-2 : tie.Need-loop-less-2 Inv-loop μ-loop
+loop-less-2 c = omega arith
+
+loop-again-2 : tie.Need-loop-again-2 Inv-loop μ-loop
+loop-again-2 c =
+    let a = c .before .before .before .before .before .before .before .args in
+    let l = c .before .before .before .before .loop in
+    let h : l .i < length (a .row .now) = omega arith in
+    let e = filter-off (passes (a .settings) (a .level)) (a .row .now) (l .i) h (passes-off (a .settings) (a .level) _ _ _ (c .before .hash .ensures) (c .before .before .before .before .before .region .ensures) (c .if1 .left)) in
+    (omega arith, omega arith, rw e (l .inv .2))
+
+returns : tie.Need-returns Inv-loop μ-loop
+returns c =
+    let a = c .before .before .before .before .args in
+    let l = c .before .loop in
+    let h : length (a .row .now) ≤ l .i = omega arith in
+    rw (take-all (l .i) (a .row .now) h) at (l .inv .2)
+
+pub count-passing-spec : {M : Type 1} → statement M
+count-passing-spec =
+    tie.close
+    (tie.spec
+    Inv-loop
+    μ-loop
+    region-requires
+    loop-holds
+    mul-x
+    shared-slice-read-x
+    add-i
+    hash-requires
+    add-many
+    loop-less
+    loop-again
+    loop-less-2
+    loop-again-2
+    returns)

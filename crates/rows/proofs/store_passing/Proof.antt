@@ -1,0 +1,117 @@
+-- `rows::store_passing` meets its contract. Assumes nothing.
+use Prim.Native.Nat.{_-_, _<_, _≤_}
+use mathlib.Core.Path.{_≡_, refl}
+use mathlib.Core.Bool.{true}
+use native.Mathlib.Omega.{arith}
+use lib.ListN.{length, take, getD, length-set}
+use lib.Seq.{take-all}
+use Rattle.rule.specs.Cells.{filter}
+use Rattle.rule.specs.Rule.{passes}
+use Rattle.rule.proofs.Steps.{filter-on, filter-off, filter-room}
+use Rattle.rows.specs.Walked.{Stored}
+use Rattle.rows.proofs.Walks.{passes-on, passes-off}
+use Rattle.rows.proofs.Stores.{stored-none, stored-more}
+use Rattle.rows.proofs.store_passing.Statement.{statement}
+use Rattle.rows.proofs.store_passing.Tie as tie
+
+abbrev Inv-loop : tie.InvT-loop
+Inv-loop out₀ at settings level row size next₀ i₀ out next i = (i ≤ length row) × (length out ≡ length out₀) × Stored out₀ at (filter (passes settings level) (take i row)) next out
+
+abbrev μ-loop : tie.MeasureT-loop
+μ-loop out₀ at settings level row size next₀ i₀ out next i = length row - i
+
+-- a cell that passes, and the room for it
+passed : (c : tie.Then1 Inv-loop μ-loop)
+    → passes (c .before .before .before .before .before .before .before .before .args .settings) (c .before .before .before .before .before .before .before .before .args .level)
+    (getD (c .before .before .before .before .before .before .before .before .args .row .now) (c .before .before .before .before .loop .i) 0) ≡ true
+passed c = passes-on _ _ _ _ _ (c .before .hash .ensures) (c .before .before .before .before .before .region .ensures) (c .if1 .taken)
+
+room : (c : tie.Then1 Inv-loop μ-loop) → c .before .before .before .before .loop .next < length (c .before .before .before .before .before .before .before .before .args .out .now)
+room c =
+    let a = c .before .before .before .before .before .before .before .before .args in
+    let l = c .before .before .before .before .loop in
+    let h : l .i < length (a .row .now) = omega arith in
+    omega (arith, filter-room (passes (a .settings) (a .level)) (a .row .now) (l .i) h (passed c))
+
+region-requires : tie.Need-region-requires Inv-loop μ-loop
+region-requires c κs = omega arith
+
+loop-holds : tie.Need-loop-holds Inv-loop μ-loop
+loop-holds c = (omega arith, refl, stored-none (c .before .before .before .args .out .now) (c .before .before .before .args .at))
+
+mul-x : tie.Need-mul-x Inv-loop μ-loop
+mul-x c = omega arith
+
+shared-slice-read-x : tie.Need-shared-slice-read-x Inv-loop μ-loop
+shared-slice-read-x c = omega arith
+
+add-i : tie.Need-add-i Inv-loop μ-loop
+add-i c = omega arith
+
+hash-requires : tie.Need-hash-requires Inv-loop μ-loop
+hash-requires c κs = omega arith
+
+mul-out : tie.Need-mul-out Inv-loop μ-loop
+mul-out c = let r = room c in omega arith
+
+slice-write-out : tie.Need-slice-write-out Inv-loop μ-loop
+slice-write-out c = let r = room c in omega arith
+
+add-next : tie.Need-add-next Inv-loop μ-loop
+add-next c = let r = room c in omega arith
+
+loop-less : tie.Need-loop-less Inv-loop μ-loop
+loop-less c = omega arith
+
+loop-again : tie.Need-loop-again Inv-loop μ-loop
+loop-again c =
+    let a = c .before .before .before .before .before .before .before .before .args in
+    let l = c .before .before .before .before .loop in
+    let h : l .i < length (a .row .now) = omega arith in (
+      omega arith,
+      simp length-set (l .inv .1),
+      rw (filter-on (passes (a .settings) (a .level)) (a .row .now) (l .i) h (passed c)) (stored-more (l .inv .2) (getD (a .row .now) (l .i) 0) (room c)),
+    )
+
+loop-less-2 : tie.Need-loop-less-2 Inv-loop μ-loop
+loop-less-2 c = omega arith
+
+loop-again-2 : tie.Need-loop-again-2 Inv-loop μ-loop
+loop-again-2 c =
+    let a = c .before .before .before .before .before .before .before .before .args in
+    let l = c .before .before .before .before .loop in
+    let h : l .i < length (a .row .now) = omega arith in
+    let p = passes-off (a .settings) (a .level) _ _ _ (c .before .hash .ensures) (c .before .before .before .before .before .region .ensures) (c .if1 .left) in
+    (omega arith, l .inv .1, rw (filter-off (passes (a .settings) (a .level)) (a .row .now) (l .i) h p) (l .inv .2))
+
+same-length : tie.Need-same-length Inv-loop μ-loop
+same-length c = omega arith
+
+returns : tie.Need-returns Inv-loop μ-loop
+returns c =
+    let a = c .before .before .before .before .before .args in
+    let l = c .before .loop in
+    let h : length (a .row .now) ≤ l .i = omega arith in
+    rw (take-all (l .i) (a .row .now) h) at (l .inv .2)
+
+pub store-passing-spec : {M : Type 1} → statement M
+store-passing-spec =
+    tie.close
+    (tie.spec
+    Inv-loop
+    μ-loop
+    region-requires
+    loop-holds
+    mul-x
+    shared-slice-read-x
+    add-i
+    hash-requires
+    mul-out
+    slice-write-out
+    add-next
+    loop-less
+    loop-again
+    loop-less-2
+    loop-again-2
+    same-length
+    returns)

@@ -1,0 +1,32 @@
+// What the calls answer. specs/Refusals.antt gives each case's number and values in document 01's terms.
+
+// Opening, adding, merging.
+pub enum Answer {
+    Done,
+    Refused(u32),
+}
+
+// The range count.
+pub enum Counted {
+    Count(u32),
+    Refused(u32),
+}
+
+// The next hit, and a step of the walker.
+pub enum Found {
+    Cell(u32),
+    Nothing,
+    Refused(u32),
+}
+
+// The image writer: the image's length.
+pub enum Written {
+    Length(usize),
+    Refused(u32),
+}
+
+// The image reader: 7 carries its block, which is zero elsewhere.
+pub enum Taken {
+    Done,
+    Refused { number: u32, block: u32 },
+}

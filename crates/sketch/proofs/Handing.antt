@@ -1,0 +1,62 @@
+-- The laws of the calls that change a sketch.
+--     hands-done, hands-refused    what is handed back, by the answer
+--     open-good, open-bad    the answer to opening
+--     add-not, add-bad, add-in    the answers to adding
+--     merge-not, merge-other, merge-unequal, merge-both    the answers to merging
+-- Assumes nothing.
+use mathlib.Core.Path.{_≡_}
+use mathlib.Core.Bool.{true, false}
+use mathlib.Core.List.{[]}
+use Prim.Native.Nat.{ℕ}
+use Rattle.rule.specs.declared.Settings.{Settings}
+use Rattle.rule.specs.Rule.{isGood}
+use Rattle.rule.specs.Refusals.{Paper, answered, refused, badSettings, badRange, notOne, unequal}
+use Rattle.find.specs.Finding.{inRange}
+use Rattle.sketch.specs.declared.Sketch.{Sketch}
+use Rattle.sketch.specs.declared.Changed.{Changed}
+use Rattle.sketch.specs.Sketches.{isSketch}
+use Rattle.sketch.specs.Calls.{openOn, addOn, mergeOn, sameSettings, doneWith, refusedWith, Hands}
+
+pub hands-done : (paper : Paper) (next old : Sketch) (r : Changed) → paper ≡ answered [] → r ≡ doneWith next → Hands paper next old r
+hands-done paper next old r e q = record { answer = cc; sketch = cc }
+
+pub hands-refused : (paper : Paper) (next old : Sketch) (number : ℕ) (r : Changed) → paper ≡ refused number 0 → r ≡ refusedWith number old → Hands paper next old r
+hands-refused paper next old number r e q = record { answer = cc; sketch = cc }
+
+pub open-good : (s : Settings) → isGood s ≡ true → openOn s ≡ answered []
+unfolding openOn
+open-good s e = rw e
+
+pub open-bad : (s : Settings) → isGood s ≡ false → openOn s ≡ refused badSettings 0
+unfolding openOn
+open-bad s e = rw e
+
+module _ (k : Sketch) (lo hi : ℕ) where
+  pub add-not : isSketch k ≡ false → addOn k lo hi ≡ refused notOne 0
+  unfolding addOn
+  add-not e = rw e
+
+  pub add-bad : isSketch k ≡ true → inRange (k .settings) lo hi ≡ false → addOn k lo hi ≡ refused badRange 0
+  unfolding addOn
+  add-bad e f = rw (e, f)
+
+  pub add-in : isSketch k ≡ true → inRange (k .settings) lo hi ≡ true → addOn k lo hi ≡ answered []
+  unfolding addOn
+  add-in e f = rw (e, f)
+
+module _ (j k : Sketch) where
+  pub merge-not : isSketch j ≡ false → mergeOn j k ≡ refused notOne 0
+  unfolding mergeOn
+  merge-not e = rw e
+
+  pub merge-other : isSketch j ≡ true → isSketch k ≡ false → mergeOn j k ≡ refused notOne 0
+  unfolding mergeOn
+  merge-other e f = rw (e, f)
+
+  pub merge-unequal : isSketch j ≡ true → isSketch k ≡ true → sameSettings (j .settings) (k .settings) ≡ false → mergeOn j k ≡ refused unequal 0
+  unfolding mergeOn
+  merge-unequal e f g = rw (e, f, g)
+
+  pub merge-both : isSketch j ≡ true → isSketch k ≡ true → sameSettings (j .settings) (k .settings) ≡ true → mergeOn j k ≡ answered []
+  unfolding mergeOn
+  merge-both e f g = rw (e, f, g)

@@ -1,0 +1,8 @@
+-- The laws, for this crate and for those above it.
+pub mod Facts
+pub mod Making
+pub mod Settles
+pub mod Gathers
+pub mod Handing
+pub mod Worth
+pub mod Results
