@@ -5,6 +5,7 @@ use rule::Settings;
 use rule::answers::Answer;
 use rule::answers::Counted;
 use rule::answers::Found;
+use rule::answers::Written;
 use sketch::Sketch;
 
 const OUT: i32 = 1;
@@ -50,6 +51,15 @@ fn opened(capacity: u32) -> u32 {
     }
 }
 
+// A room of so many bytes for an empty sketch.
+fn written(room: &mut [u8]) -> u32 {
+    let r = Sketch::open(q(16));
+    match image::write(r.sketch, room) {
+        Written::Length(_) => 0,
+        Written::Refused(number) => number,
+    }
+}
+
 fn main() {
     say(b"level 7 under Q, count: ", counted(count(q(16), 7, 1, 10)));
     say(
@@ -59,4 +69,8 @@ fn main() {
     say(b"level 6 under Q, count: ", counted(count(q(16), 6, 1, 10)));
     say(b"capacity 504: ", opened(504));
     say(b"capacity 505: ", opened(505));
+    let mut short = [0u8; 511];
+    say(b"room of 511 for an empty sketch: ", written(&mut short));
+    let mut enough = [0u8; 512];
+    say(b"room of 512 for an empty sketch: ", written(&mut enough));
 }

@@ -112,13 +112,13 @@ fits-top s g X =
 
 -- the lowest level
 
-pub lowest-from : (s : Settings) (X : Cells) (m : ℕ) → m ≤ lowest s X m
-unfolding lowest
-lowest-from s X m = least-from (fits s X) (top s - m) m
-
 pub lowest-top : (s : Settings) (X : Cells) (m : ℕ) → m ≤ top s → lowest s X m ≤ top s
 unfolding lowest
 lowest-top s X m h = omega (arith, least-to (fits s X) (top s - m) m)
+
+pub lowest-from : (s : Settings) (X : Cells) (m : ℕ) → m ≤ lowest s X m
+unfolding lowest
+lowest-from s X m = least-from (fits s X) (top s - m) m
 
 pub lowest-fits : (s : Settings) → Good s → (X : Cells) (m : ℕ) → m ≤ top s → fits s X (lowest s X m) ≡ true
 unfolding lowest

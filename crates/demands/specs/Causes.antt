@@ -1,0 +1,87 @@
+-- What demand 1 asks of a call: an answer for every input, a refusal for its cause alone, and for the first cause that holds.
+-- Assumes nothing: these are definitions.
+use Prim.Native.Nat.{ℕ}
+use mathlib.Core.Bool.{Bool, true, false, not}
+use mathlib.Core.Path.{_≡_}
+use mathlib.Core.Logic.{_⊎_}
+use mathlib.Core.List.{List, [], _∷_}
+use lib.Dec.{leb, ltb}
+use lib.ListN.{length}
+use Rattle.rule.specs.declared.Settings.{Settings}
+use Rattle.rule.specs.Rule.{isGood, top}
+use Rattle.rule.specs.Refusals.{Paper, answered, refused, badSettings, badRange, badLevel, notOne, unequal, noRoom, badCheck, badImage}
+use Rattle.find.specs.declared.Walker.{Walker}
+use Rattle.find.specs.Finding.{isCell, inRange}
+use Rattle.find.specs.Walking.{isWalker}
+use Rattle.sketch.specs.declared.Sketch.{Sketch}
+use Rattle.sketch.specs.Sketches.{isSketch}
+use Rattle.sketch.specs.Calls.{sameSettings}
+use Rattle.image.specs.Images.{imageOf, settingsIn}
+use Rattle.image.specs.Shapes.{blocksIn, firstWrong}
+use Rattle.image.specs.Calls.{rightLength, marked, isImage}
+
+-- what must hold, and the refusal where it doesn't: its number and 7's block, which is zero elsewhere
+pub record Rule : Type 0 where
+  pub holds : Bool
+  pub number : ℕ
+  pub block : ℕ
+
+abbrev pub rule : Bool → ℕ → Rule
+rule holds number = record { holds = holds; number = number; block = 0 }
+
+-- the first of the rules that is broken has this number and block
+abbrev pub Cause : List Rule → ℕ → ℕ → Type 0
+Cause [] number block = ⊥
+Cause (r ∷ rs) number block = ((r .holds ≡ false) × (number ≡ r .number) × (block ≡ r .block)) ⊎ ((r .holds ≡ true) × Cause rs number block)
+
+-- all rules are kept
+abbrev pub Kept : List Rule → Type 0
+Kept [] = Unit {0}
+Kept (r ∷ rs) = (r .holds ≡ true) × Kept rs
+
+-- a refusal for a cause
+pub record Refusal (paper : Paper) (rules : List Rule) : Type 0 where
+  pub number : ℕ
+  pub block : ℕ
+  pub cause : Cause rules number block
+  pub given : paper ≡ refused number block
+
+-- an answer that is lawful under the rules
+pub record Lawful (paper : Paper) (rules : List Rule) (values : List ℕ) : Type 0 where
+  -- every input has an answer: these values where all rules are kept, and otherwise a refusal for a cause
+  pub always : (Kept rules × (paper ≡ answered values)) ⊎ Refusal paper rules
+  -- a refusal's number implies its cause
+  pub only : (number block : ℕ) → paper ≡ refused number block → Cause rules number block
+  -- a cause, with no earlier one, implies the refusal
+  pub first : (number block : ℕ) → Cause rules number block → paper ≡ refused number block
+
+-- the rules of each call, in document 01's order
+
+abbrev pub countRules : Settings → ℕ → ℕ → ℕ → List Rule
+countRules s level lo hi = rule (isGood s) badSettings ∷ rule (leb level (top s)) badLevel ∷ rule (inRange s lo hi) badRange ∷ []
+
+abbrev pub nextRules : Settings → ℕ → ℕ → List Rule
+nextRules s level from = rule (isGood s) badSettings ∷ rule (leb level (top s)) badLevel ∷ rule (isCell s from) badRange ∷ []
+
+abbrev pub stepRules : Walker → List Rule
+stepRules w = rule (isWalker w) notOne ∷ []
+
+abbrev pub openRules : Settings → List Rule
+openRules s = rule (isGood s) badSettings ∷ []
+
+abbrev pub addRules : Sketch → ℕ → ℕ → List Rule
+addRules k lo hi = rule (isSketch k) notOne ∷ rule (inRange (k .settings) lo hi) badRange ∷ []
+
+abbrev pub mergeRules : Sketch → Sketch → List Rule
+mergeRules j k = rule (isSketch j) notOne ∷ rule (isSketch k) notOne ∷ rule (sameSettings (j .settings) (k .settings)) unequal ∷ []
+
+abbrev pub writeRules : Sketch → ℕ → List Rule
+writeRules k room = rule (isSketch k) notOne ∷ rule (leb (length (imageOf k)) room) noRoom ∷ []
+
+abbrev pub readRules : List ℕ → List Rule
+readRules s =
+    rule (rightLength (length s)) badImage ∷
+    record { holds = not (ltb (firstWrong s) (blocksIn s)); number = badCheck; block = firstWrong s } ∷
+    rule (marked s) badImage ∷
+    rule (isGood (settingsIn s)) badSettings ∷
+    rule (isImage s) badImage ∷ []

@@ -1,0 +1,36 @@
+-- Histories: what sketches the calls can make, and of which cells. Each case speaks of what a call promises, so it holds of
+-- what the calls return. Assumes nothing: these are definitions.
+use Prim.Native.Nat.{ℕ}
+use mathlib.Core.Path.{_≡_}
+use mathlib.Core.List.{List, [], _∷_}
+use lib.ListN.{take}
+use Rattle.rule.specs.declared.Settings.{Settings}
+use Rattle.rule.specs.declared.answers.Written.{Written}
+use Rattle.rule.specs.Cells.{Cells, noCells, _∪_, interval}
+use Rattle.rule.specs.Refusals.{Paper, answered, refused, ofAnswer, ofWritten}
+use Rattle.sketch.specs.declared.Sketch.{Sketch}
+use Rattle.sketch.specs.declared.Changed.{Changed}
+use Rattle.sketch.specs.Sketches.{opened, add, merge}
+use Rattle.sketch.specs.Calls.{noSketch, openOn, addOn, mergeOn, Hands}
+use Rattle.image.specs.declared.Loaded.{Loaded}
+use Rattle.image.specs.Calls.{Writes, Reads}
+
+-- the cells that a call adds: none where it is refused
+abbrev pub brings : Paper → Cells → Cells
+brings (answered values) X = X
+brings (refused number block) X = noCells
+
+-- `Made s X k`: with the settings s, the sketch k was made, and X is the set of all cells added on the way
+pub data Made (s : Settings) : Cells → Sketch → Type 0 where
+  opening : (r : Changed) → Hands (openOn s) (opened s) noSketch r → ofAnswer (r .answer) ≡ answered [] → Made s noCells (r .sketch)
+  -- answered or refused
+  adding : {X : Cells} {k : Sketch} → Made s X k → (lo hi : ℕ) (r : Changed) → Hands (addOn k lo hi) (add k lo hi) k r
+      → Made s (X ∪ brings (addOn k lo hi) (interval lo hi)) (r .sketch)
+  merging : {X Y : Cells} {j k : Sketch} → Made s X j → Made s Y k → (r : Changed) → Hands (mergeOn j k) (merge j k) j r
+      → Made s (X ∪ brings (mergeOn j k) Y) (r .sketch)
+  -- with anything that is no sketch, or has other settings: the merge is refused
+  refusing : {X : Cells} {j : Sketch} → Made s X j → (k : Sketch) (r : Changed) → Hands (mergeOn j k) (merge j k) j r → (number block : ℕ)
+      → ofAnswer (r .answer) ≡ refused number block → Made s X (r .sketch)
+  -- written to a room, and read back from as many bytes as the writer says
+  reading : {X : Cells} {k : Sketch} → Made s X k → (room after : List ℕ) (w : Written) → Writes k room w after → (n : ℕ)
+      → ofWritten w ≡ answered (n ∷ []) → (r : Loaded) → Reads (take n after) r → Made s X (r .sketch)

@@ -1,0 +1,171 @@
+-- What the calls answer, case by case.
+--     write-not, write-short, write-done      writing
+--     read-length, read-check, read-mark, read-on     reading: the refusals in order
+--     marked-shape, marked-sketch, marked-done     reading, once the checks and the mark are right
+--     length-facts, all-right     what the tests on the length and the checks say
+--     shape-count, shape-zeros, shape-all, shaped-size     the tests of the shape, as code makes them, and what they say of the length
+--     fault-image, fault-settings     which refusal it is
+--     image-put, room-put     block 0 and the cell blocks are the image, at the start of the room
+-- Assumes nothing.
+use Prim.Native.Nat.{ℕ, _+_, _*_, _-_, _%_, _<_, _≤_}
+use mathlib.Core.Path.{_≡_, refl, sym, ap, ap₂, _∙_}
+use mathlib.Core.Bool.{Bool, true, false, not, cond, _&&_, and-eq-true-iff, and-false}
+use mathlib.Core.List.{List, [], _∷_, _++_, append-nil}
+use native.Mathlib.Omega.{arith}
+use lib.Dec.{eqb}
+use lib.ListN.{length, take, drop, length-append, length-drop, drop-of-length-le}
+use lib.Seq.{take-all, take-at, drop-at}
+use borrow.Author.Tests.{leb-true, eqb-true, eq-eqb, ne-eqb, le-leb, lt-leb, lt-ltb, le-ltb}
+use Rattle.rule.specs.declared.answers.Written.{Written}
+use Rattle.rule.specs.Rule.{isGood}
+use Rattle.rule.specs.Rows.{placed, allZero}
+use Rattle.rule.specs.Refusals.{Paper, answered, refused, unless, badSettings, badImage, ofWritten}
+use Rattle.rule.proofs.Facts.{facts-good}
+use Rattle.rule.proofs.Lists.{least-to}
+use Rattle.rule.specs.declared.Settings.{Settings}
+use Rattle.rule.specs.declared.answers.Written.the-variants as written
+use Rattle.block.specs.Sums.{sealed, blockGood}
+use Rattle.block.proofs.Blocks.{sealed-length}
+use Rattle.sketch.specs.declared.Sketch.{Sketch}
+use Rattle.sketch.specs.Sketches.{sketchAt, isSketch}
+use Rattle.sketch.proofs.Facts.{sketch-facts}
+use Rattle.image.specs.declared.Loaded.{Loaded}
+use Rattle.image.specs.Images.{headOf, blocksFor, cellBlocks, imageAs, imageOf, settingsIn, countIn, spelled}
+use Rattle.image.specs.Shapes.{Blocks, between, blockAt, blocksIn, firstWrong, blocksShaped, shaped}
+use Rattle.image.specs.Calls.{same, writeOn, roomAfter, Writes, rightLength, marked, Checked, isImage, readMarked, readOn, doneWith, refusedWith, faultIn, Hands, Reads}
+use Rattle.image.proofs.Bodies.{head-length}
+use Rattle.image.proofs.Spelling.{shaped-same}
+
+module _ (k : Sketch) (room : List ℕ) where
+  writes : (p : Paper) (r : Written) (after : List ℕ) → writeOn k (length room) ≡ p → ofWritten r ≡ p → after ≡ roomAfter p k room → Writes k room r after
+  writes p r after e f g = record { answer = f ∙ sym e; contents = g ∙ ap (λ q. roomAfter q k room) (sym e) }
+
+  pub write-not : isSketch k ≡ false → Writes k room (written.Refused 4) room
+  unfolding writeOn
+  write-not e = writes (refused 4 0) (written.Refused 4) room (rw e) refl refl
+
+  pub write-short : isSketch k ≡ true → length room < length (imageOf k) → Writes k room (written.Refused 6) room
+  unfolding writeOn
+  write-short e h = writes (refused 6 0) (written.Refused 6) room (rw (e, lt-leb (length (imageOf k)) (length room) h)) refl refl
+
+  pub write-done : (n : ℕ) (after : List ℕ) → isSketch k ≡ true → n ≡ length (imageOf k) → n ≤ length room → after ≡ placed room 0 (imageOf k) → Writes k room (written.Length n) after
+  unfolding writeOn
+  write-done n after e l h f = writes (answered (n ∷ [])) (written.Length n) after (rw (e, ← l, le-leb n (length room) h)) refl f
+
+-- the right lengths
+pub length-facts : (s : List ℕ) → rightLength (length s) ≡ true → Blocks s
+unfolding rightLength
+length-facts s e =
+    let a = and-eq-true-iff _ _ .0 e in
+    let b = and-eq-true-iff _ _ .0 (a .1) in
+    let one : 1 ≤ length s = leb-true _ _ (a .0) in
+    let most : length s ≤ 2560 = leb-true _ _ (b .0) in
+    let whole : length s % 512 ≡ 0 = eqb-true _ _ (b .1) in
+    record { some = omega arith; few = most; whole = omega arith }
+
+hands : (p : Paper) (s : List ℕ) (number block : ℕ) (r : Loaded) → p ≡ refused number block → r ≡ refusedWith number block → Hands p s r
+hands p s number block r e q = record { answer = cc; sketch = cc }
+
+module _ (s : List ℕ) (r : Loaded) where
+  pub read-length : rightLength (length s) ≡ false → r ≡ refusedWith 8 0 → Reads s r
+  unfolding readOn
+  read-length e q = hands (readOn s) s 8 0 r (rw e) q
+
+  module _ (right : rightLength (length s) ≡ true) where
+    pub read-check : (i : ℕ) → i ≡ firstWrong s → i < blocksIn s → r ≡ refusedWith 7 i → Reads s r
+    unfolding readOn
+    read-check i e h q = hands (readOn s) s 7 i r (rw (right, ← e, lt-ltb i (blocksIn s) h)) q
+
+    module _ (good : blocksIn s ≤ firstWrong s) where
+      pub read-mark : marked s ≡ false → r ≡ refusedWith 8 0 → Reads s r
+      unfolding readOn
+      read-mark e q = hands (readOn s) s 8 0 r (rw (right, le-ltb (firstWrong s) (blocksIn s) good, e)) q
+
+      pub read-on : marked s ≡ true → Hands (readMarked s) s r → Reads s r
+      unfolding readOn
+      read-on e q = rw (right, le-ltb (firstWrong s) (blocksIn s) good, e) q
+
+-- no check is wrong
+pub all-right : (s : List ℕ) → blocksIn s ≤ firstWrong s → firstWrong s ≡ blocksIn s
+unfolding firstWrong
+all-right s h = let l = least-to (λ i. not (blockGood (blockAt i s))) (blocksIn s) 0 in omega arith
+
+-- no image: the fault decides
+fault : (s : List ℕ) → isImage s ≡ false → readMarked s ≡ refused (faultIn s) 0
+unfolding readMarked faultIn
+fault s e = rw e (each (isGood (settingsIn s)))
+  where
+    each : (t : Bool) → unless t badSettings (refused badImage 0) ≡ refused (cond t badImage badSettings) 0
+    each true = refl
+    each false = refl
+
+spelled-good : (s : List ℕ) → isSketch (spelled s) ≡ true → isGood (settingsIn s) ≡ true
+unfolding spelled sketchAt
+spelled-good s e = facts-good (settingsIn s) (sketch-facts (spelled s) e .settings)
+
+module _ (s : List ℕ) (c : Checked s) (r : Loaded) where
+  pub marked-shape : shaped s ≡ false → r ≡ refusedWith (faultIn s) 0 → Hands (readMarked s) s r
+  unfolding isImage
+  marked-shape e q = hands (readMarked s) s _ 0 r (fault s (ap (λ t. isSketch (spelled s) && t) (sym (shaped-same s c) ∙ e) ∙ and-false (isSketch (spelled s)))) q
+
+  pub marked-sketch : isSketch (spelled s) ≡ false → r ≡ refusedWith (faultIn s) 0 → Hands (readMarked s) s r
+  unfolding isImage
+  marked-sketch e q = hands (readMarked s) s _ 0 r (fault s (ap (λ t. t && same s (imageOf (spelled s))) e)) q
+
+  pub marked-done : shaped s ≡ true → isSketch (spelled s) ≡ true → r ≡ doneWith (spelled s) → Hands (readMarked s) s r
+  unfolding readMarked isImage
+  marked-done e g q =
+      let good : isGood (settingsIn s) ≡ true = spelled-good s g in
+      let p : readMarked s ≡ answered [] = rw (good, g, ← shaped-same s c, e) in
+      record { answer = cc; sketch = cc }
+
+-- the tests of the shape, as code makes them
+module _ (s : List ℕ) (n : ℕ) (said : n ≡ countIn s) where
+  pub shape-count : (blocksIn s ≡ 1 + blocksFor n → ⊥) → false ≡ shaped s
+  unfolding shaped
+  shape-count h = rw (← said, ne-eqb (blocksIn s) (1 + blocksFor n) h)
+
+  module _ (right : blocksIn s ≡ 1 + blocksFor n) (z : Bool) (zeros : z ≡ allZero (between 26 508 s)) where
+    pub shape-zeros : z ≡ false → false ≡ shaped s
+    unfolding shaped
+    shape-zeros e = rw (← said, eq-eqb (blocksIn s) (1 + blocksFor n) right, ← zeros, e)
+
+    pub shape-all : (r : Bool) → z ≡ true → r ≡ blocksShaped (blocksFor n) 1 n (take (length s - 512) (drop 512 s)) → r ≡ shaped s
+    unfolding shaped
+    shape-all r e q =
+        let rest : take (length s - 512) (drop 512 s) ≡ drop 512 s = take-all (length s - 512) (drop 512 s) (rw length-drop (omega arith)) in
+        rw (← said, eq-eqb (blocksIn s) (1 + blocksFor n) right, ← zeros, e, ← rest) q
+
+-- the right number of blocks, which hold 504 cells at most
+pub shaped-size : (s : List ℕ) → Blocks s → shaped s ≡ true → (length s ≡ 512 * (1 + blocksFor (countIn s))) × (countIn s ≤ 504)
+unfolding shaped
+shaped-size s b e =
+    let n : blocksIn s ≡ 1 + blocksFor (countIn s) = eqb-true (blocksIn s) (1 + blocksFor (countIn s)) (and-eq-true-iff (eqb (blocksIn s) (1 + blocksFor (countIn s))) _ .0 e .0) in
+    let w : length s ≡ 512 * blocksIn s = b .whole in
+    let h : length s ≤ 2560 = b .few in
+    (omega arith, omega arith)
+
+module _ (s : List ℕ) where
+  pub fault-image : isGood (settingsIn s) ≡ true → faultIn s ≡ 8
+  unfolding faultIn
+  fault-image e = rw e
+
+  pub fault-settings : isGood (settingsIn s) ≡ false → faultIn s ≡ 1
+  unfolding faultIn
+  fault-settings e = rw e
+
+-- block 0 and the cell blocks, put in room of their length
+pub image-put : (s : Settings) (level : ℕ) (xs room head blocks : List ℕ) → head ≡ sealed (headOf s level (length xs)) → blocks ≡ cellBlocks (blocksFor (length xs)) 1 xs
+    → (n : ℕ) → n ≡ length (head ++ drop 512 room) - 512
+    → take 512 (head ++ drop 512 room) ++ (blocks ++ drop n (drop 512 (head ++ drop 512 room))) ≡ imageAs s level xs
+unfolding imageAs
+image-put s level xs room head blocks h b n l =
+    let size : length head ≡ 512 = ap length h ∙ sealed-length (headOf s level (length xs)) (head-length s level (length xs)) in
+    let none : drop n (drop 512 room) ≡ [] = drop-of-length-le (drop 512 room) {i = n} (omega (arith, length-append head (drop 512 room))) in
+    ap₂ (λ a r. a ++ (blocks ++ r)) (take-at head (drop 512 room) 512 size) (ap (drop n) (drop-at head (drop 512 room) 512 size) ∙ none)
+    ∙ ap (λ t. head ++ t) (append-nil blocks)
+    ∙ ap₂ _++_ h b
+
+-- the image at the start of the room
+pub room-put : (img room : List ℕ) (n : ℕ) → n ≡ length img → img ++ drop (n - 0) room ≡ placed room 0 img
+room-put img room n e = let d : n - 0 ≡ 0 + length img = omega arith in ap (λ j. img ++ drop j room) d

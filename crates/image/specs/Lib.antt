@@ -1,0 +1,4 @@
+-- The definitions that the contracts cite.
+pub mod Images
+pub mod Shapes
+pub mod Calls

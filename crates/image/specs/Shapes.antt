@@ -1,0 +1,49 @@
+-- What the reader tests on the bytes themselves. Assumes nothing: these are definitions.
+use Prim.Native.Nat.{ℕ, zero, suc, _+_, _*_, _-_, _/_, _≤_, min}
+use mathlib.Core.Path.{_≡_}
+use mathlib.Core.Bool.{Bool, true, not, _&&_}
+use mathlib.Core.List.{List}
+use lib.Dec.{eqb}
+use lib.ListN.{length, take, drop}
+use Rattle.rule.specs.Cells.{least}
+use Rattle.rule.specs.Rows.{allZero}
+use Rattle.block.specs.Little.{numberAt}
+use Rattle.block.specs.Sums.{blockGood}
+use Rattle.image.specs.Images.{blocksFor, countIn}
+
+-- the bytes from place a to before place e
+abbrev pub between : ℕ → ℕ → List ℕ → List ℕ
+between a e s = take (e - a) (drop a s)
+
+-- block i, counted from 0
+abbrev pub blockAt : ℕ → List ℕ → List ℕ
+blockAt i s = take 512 (drop (512 * i) s)
+
+-- how many blocks there are
+abbrev pub blocksIn : List ℕ → ℕ
+blocksIn s = length s / 512
+
+-- the first block whose check is wrong; the number of blocks where none is
+unfoldable pub firstWrong : List ℕ → ℕ
+firstWrong s = least (λ i. not (blockGood (blockAt i s))) (blocksIn s) 0
+
+-- one to five blocks, nothing over
+pub record Blocks (s : List ℕ) : Type 0 where
+  pub some : 512 ≤ length s
+  pub few : length s ≤ 2560
+  pub whole : length s ≡ 512 * blocksIn s
+
+-- a cell block says its number and how many cells it holds, and has zeros after them
+unfoldable pub blockShaped : ℕ → ℕ → List ℕ → Bool
+blockShaped i many s = eqb (numberAt 2 0 s) i && (eqb (numberAt 2 2 s) many && allZero (between (4 + 4 * many) 508 s))
+
+-- so do m cell blocks from block i on, and every one but the last is full
+unfoldable pub blocksShaped : ℕ → ℕ → ℕ → List ℕ → Bool
+blocksShaped zero i count s = true
+blocksShaped (suc m) i count s = blockShaped i (min 126 count) (take 512 s) && blocksShaped m (suc i) (count - 126) (drop 512 s)
+
+-- as many blocks as the cells need, zeros at the end of block 0, and cell blocks in order
+unfoldable pub shaped : List ℕ → Bool
+shaped s =
+    eqb (blocksIn s) (1 + blocksFor (countIn s))
+    && (allZero (between 26 508 s) && blocksShaped (blocksFor (countIn s)) 1 (countIn s) (drop 512 s))
