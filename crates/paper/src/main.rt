@@ -1,0 +1,147 @@
+// A small kitchen on paper: each cell with its hash and the highest level at which it passes, and then a short evening on two
+// handhelds, step by step, so that a person with a pencil can follow. docs/KITCHEN.md walks through what this prints.
+ghost use Prim.Native.Nat.{_<_};
+use rule::Settings;
+use sketch::Sketch;
+use sketch::estimates::Estimate;
+
+const OUT: i32 = 1;
+
+// Ten cells, and room for three.
+fn kitchen() -> Settings
+    ensures { λ r. ⌜ 0 < r .p ⌝ }
+{
+    Settings {
+        n: 10,
+        p: 101,
+        a: 37,
+        b: 5,
+        capacity: 3,
+    }
+}
+
+fn text(bytes: &[u8]) {
+    io::write_all(OUT, bytes);
+}
+
+fn number(x: u32) {
+    io::print_decimal(OUT, x as u64);
+}
+
+// The highest level at which the cell passes; at level 0 every cell does.
+fn highest(settings: Settings, x: u32) -> u32
+    requires { ⌜ 0 < settings .p ⌝ }
+{
+    let mut level = settings.top();
+    while 0 < level {
+        if settings.passes(level, x) {
+            return level;
+        }
+        level = level - 1;
+    }
+    level
+}
+
+fn print_regions(settings: Settings) {
+    text(b"level region\n");
+    let mut level = 0;
+    while level <= 6 {
+        number(level);
+        text(b" ");
+        number(settings.region(level));
+        text(b"\n");
+        level = level + 1;
+    }
+}
+
+fn print_list(settings: Settings)
+    requires { ⌜ 0 < settings .p ⌝ }
+{
+    text(b"cell hash highest level\n");
+    let mut x = 1;
+    while x <= 10 {
+        number(x);
+        text(b" ");
+        number(settings.hash(x));
+        text(b" ");
+        number(highest(settings, x));
+        text(b"\n");
+        x = x + 1;
+    }
+}
+
+fn print_cells(cells: &[u32]) {
+    let mut i = 0;
+    while i < cells.len() {
+        text(b" ");
+        number(cells[i]);
+        i = i + 1;
+    }
+}
+
+// About: the number of cells, doubled once for each level.
+fn print_about(count: u32, level: u32) {
+    text(b", about ");
+    if level < 32 {
+        io::print_decimal(OUT, (count as u64) << level);
+    }
+}
+
+fn print_estimate(k: Sketch) {
+    match k.estimate() {
+        Estimate::Exact(v) => {
+            text(b", exactly ");
+            number(v);
+        }
+        Estimate::About(_) => print_about(k.count, k.level),
+        Estimate::Refused(_) => text(b", refused"),
+    }
+}
+
+fn show(k: Sketch) {
+    text(b"level ");
+    number(k.level);
+    text(b", cells");
+    let cells = k.cells;
+    let count = k.count;
+    let n = count as usize;
+    if n <= 504 {
+        print_cells(&cells[..n]);
+    }
+    print_estimate(k);
+    text(b"\n");
+}
+
+// One stretch on a handheld.
+fn sees(name: &[u8], k: Sketch, lo: u32, hi: u32) -> Sketch {
+    text(name);
+    text(b" sees ");
+    number(lo);
+    text(b"..");
+    number(hi);
+    text(b": ");
+    let r = k.add(lo, hi);
+    show(r.sketch);
+    r.sketch
+}
+
+fn merges(name: &[u8], j: Sketch, k: Sketch) {
+    text(name);
+    let r = j.merge(k);
+    show(r.sketch);
+}
+
+fn main() {
+    let settings = kitchen();
+    print_regions(settings);
+    print_list(settings);
+    let opened = Sketch::open(settings);
+    let empty = opened.sketch;
+    let a = sees(b"first handheld", empty, 1, 2);
+    let a = sees(b"first handheld", a, 6, 6);
+    let b = sees(b"second handheld", empty, 2, 4);
+    let b = sees(b"second handheld", b, 9, 10);
+    merges(b"first with second: ", a, b);
+    merges(b"second with first: ", b, a);
+    merges(b"first with itself: ", a, a);
+}
