@@ -11,7 +11,7 @@
 --     around-merge, all-merge, both-present, both-merge    two sketches' cells, with an empty range after them
 -- Assumes nothing.
 use mathlib.Core.Path.{_≡_, refl, sym, ap, _∙_, subst, fun-ext}
-use mathlib.Core.Bool.{Bool, true, false, not, _&&_, _||_, or-false, and-false, false≢true}
+use mathlib.Core.Bool.{Bool, true, false, not, _&&_, _||_, or-false, and-false}
 use mathlib.Core.Logic.{⊎-elim}
 use mathlib.Core.List.{List, [], _++_}
 use Prim.Native.Nat.{ℕ, suc, _+_, _-_, _≤_, _<_, max}
@@ -30,6 +30,7 @@ use Rattle.rule.proofs.Samples.{in-grid, listed-sample, sample-rises, fits-few,
 use Rattle.sketch.specs.declared.Sketch.{Sketch}
 use Rattle.sketch.specs.Sketches.{sketchAt, cellsOf, sketchFrom, add, merge, Sound}
 use Rattle.rule.proofs.Steps.{part-rest}
+use Rattle.find.proofs.Checks.{and-parts}
 use Rattle.rows.specs.Walked.{cellsBelow}
 use Rattle.rows.proofs.Facts.{below-splits}
 use Rattle.sketch.specs.Settling.{allOf, between, Around, Present}
@@ -48,14 +49,6 @@ places false false true true g hf hb hi = hi refl
 places false false true false g hf hb hi = refl
 places false false false true g hf hb hi = refl
 places false false false false g hf hb hi = refl
-
-and-left : (t u : Bool) → (t && u) ≡ true → t ≡ true
-and-left true u e = refl
-and-left false u e = e
-
-and-right : (t u : Bool) → (t && u) ≡ true → u ≡ true
-and-right true u e = e
-and-right false u e = absurd (false≢true e)
 
 module _ (s : Settings) (front back : List ℕ) (lo hi : ℕ) (w : Around s front back lo hi) (level : ℕ) where
   thin : List ℕ → List ℕ
@@ -80,7 +73,7 @@ module _ (s : Settings) (front back : List ℕ) (lo hi : ℕ) (w : Around s fron
       ∙ places (listed front x) (listed back x) (leb lo x && leb x hi) p (listed (range 1 (s .n)) x)
       (λ e. let r : (1 ≤ x) × (x ≤ lo - 1) = rising-listed front 1 (lo - 1) x (w .before) e in in-grid s x (r .0) (omega (arith, w .start, w .last)))
       (λ e. let r : (suc hi ≤ x) × (x ≤ s .n) = rising-listed back (suc hi) (s .n) x (w .after) e in in-grid s x (omega arith) (r .1))
-      (λ e. in-grid s x (omega (arith, w .one, leb-true lo x (and-left (leb lo x) (leb x hi) e))) (omega (arith, w .last, leb-true x hi (and-right (leb lo x) (leb x hi) e))))
+      (λ e. in-grid s x (omega (arith, w .one, leb-true lo x (and-parts (leb lo x) (leb x hi) e .0))) (omega (arith, w .last, leb-true x hi (and-parts (leb lo x) (leb x hi) e .1))))
       ∙ ap (λ (t : Bool). t || ((p && (leb lo x && leb x hi)) || (p && listed back x))) (sym (listed-filter (passes s level) front x))
       ∙ ap (λ (t : Bool). listed (thin front) x || ((p && t) || (p && listed back x))) (sym (listed-range lo hi x))
       ∙ ap (λ (t : Bool). listed (thin front) x || (t || (p && listed back x))) (sym (listed-filter (passes s level) (range lo hi) x))
@@ -204,7 +197,7 @@ thin-few s front back lo hi level l w h e =
 filtered : (X : Cells) (l : List ℕ) (x : ℕ) → listed (filter X l) x ≡ true → (X x ≡ true) × (listed l x ≡ true)
 filtered X l x e =
     let t : (X x && listed l x) ≡ true = sym (listed-filter X l x) ∙ e in
-    (and-left (X x) (listed l x) t, and-right (X x) (listed l x) t)
+    and-parts (X x) (listed l x) t
 
 -- at its own level all of a sketch's cells pass; and at every level few do
 pub own-pass : (k : Sketch) → Sound k → (l : ℕ) → k .level ≡ l → cellsOf k ≡ filter (passes (k .settings) l) (cellsOf k)
@@ -349,7 +342,7 @@ module _ (j k : Sketch) (same : j .settings ≡ k .settings) (wj : Sound j) (wk 
                   );
             };
         low = omega (arith, wj .level);
-        front-passes = filter-all (passes s level) both (λ x m. and-left (passes s level x) (listed (cellsOf j) x || listed (cellsOf k) x) (sym (both-listed x) ∙ m));
+        front-passes = filter-all (passes s level) both (λ x m. and-parts (passes s level x) (listed (cellsOf j) x || listed (cellsOf k) x) (sym (both-listed x) ∙ m) .0);
         back-passes = refl;
       }
 
