@@ -1,0 +1,4 @@
+// Answers each line of standard input with a line on standard output.
+fn main() {
+    console::serve();
+}
