@@ -1,0 +1,4 @@
+-- The laws.
+pub mod Crossings
+pub mod Outcomes
+pub mod Tight
