@@ -12,13 +12,13 @@ use native.Mathlib.Omega.{arith}
 use lib.Dec.{lit≤}
 use lib.Seq.{take-all}
 use lib.ListN.{length, take, drop, getD, replicate, length-drop, drop-of-length-le}
+use Rattle.rule.specs.declared.Settings.{Settings}
 use Rattle.rule.specs.Rows.{pad, placed}
 use Rattle.rule.proofs.Places.{placed-length, placed-pad, placed-after}
 use Rattle.rule.proofs.Steps.{next}
-use Rattle.rule.specs.declared.Settings.{Settings}
 use Rattle.find.specs.declared.Walker.{Walker}
-use Rattle.rows.specs.Walked.{Stored}
 use Rattle.find.specs.Walking.{noWalker}
+use Rattle.rows.specs.Walked.{Stored}
 use Rattle.sketch.specs.declared.Sketch.{Sketch}
 use Rattle.sketch.specs.Sketches.{sketchAt}
 use Rattle.sketch.specs.Calls.{noSketch}

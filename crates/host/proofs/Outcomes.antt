@@ -1,6 +1,6 @@
 -- The laws of what comes back.
 --     told, given, begun    an inner call's promise gives the boundary's: a number with a value, with a sketch's row, with a walker's
---     unchanged, zeroed    with a refusal: the row that was lent, or the row of all zeros
+--     zeroed, unchanged    with a refusal: the row of all zeros, or the row that was lent
 --     walker-unchanged, walker-done    a walker's row is the one that was lent where the step is refused or finds nothing
 --     double-stands    the double of a sketch is the number of cells that it stands for
 --     double-worth     with nothing lost
@@ -41,12 +41,12 @@ given h g = record { number = h .0 ∙ ap numberOf (g .answer); row = h .1 ∙ a
 pub begun : {s : Settings} {level lo hi r : ℕ} {t : Started} {after : List ℕ} → r ≡ numberOf (ofAnswer (t .answer)) → after ≡ walkerRow (t .walker) → Starts s level lo hi t → Begins s level lo hi r after
 begun n w h = record { number = n ∙ ap numberOf (h .answer); row = w ∙ ap walkerRow (h .walker) }
 
+pub zeroed : {r : ℕ} (after : List ℕ) (next : Sketch) (number block : ℕ) → Gives (refused number block) next noSketch r after → after ≡ replicate 511 0
+zeroed after next number block g = g .row ∙ zero-row
+
 module _ {r : ℕ} (before after : List ℕ) where
   pub unchanged : (next : Sketch) (number block : ℕ) → length before ≡ 511 → Gives (refused number block) next (sketchIn before) r after → after ≡ before
   unchanged next number block e g = g .row ∙ row-again before e
-
-  pub zeroed : (next : Sketch) (number block : ℕ) → Gives (refused number block) next noSketch r after → after ≡ replicate 511 0
-  zeroed next number block g = g .row ∙ zero-row
 
   module _ {cell : ℕ} (sized : length before ≡ 8) (m : Moves (walkerIn before) r cell after) where
     pub walker-unchanged : (number block : ℕ) → stepOn (walkerIn before) ≡ refused number block → after ≡ before
