@@ -4,7 +4,7 @@ use mathlib.Core.Path.{sym}
 use native.Mathlib.Omega.{arith}
 use lib.ListN.{length}
 use lib.Seq.{length-take-le}
-use Rattle.session.proofs.Feeding.{stored-room}
+use Rattle.evening.proofs.Feeding.{stored-room}
 use borrow.Author.Needs.{needs}
 use Rattle.console.proofs.serve.Statement.{statement}
 use Rattle.console.proofs.serve.Tie as tie

@@ -3,8 +3,8 @@ use borrow.Author.Needs.{needs}
 use mathlib.Core.Path.{_≡_, refl, sym, subst}
 use native.Mathlib.Omega.{arith}
 use lib.ListN.{length}
-use Rattle.session.specs.Runs.{Sitting}
-use Rattle.session.proofs.Staying.{beginning-sits}
+use Rattle.evening.specs.Runs.{Sitting}
+use Rattle.evening.proofs.Staying.{beginning-sits}
 use Rattle.console.proofs.serve_all.Statement.{statement}
 use Rattle.console.proofs.serve_all.Tie as tie
 

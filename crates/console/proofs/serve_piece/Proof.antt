@@ -5,13 +5,13 @@ use mathlib.Core.Path.{_≡_, refl, sym, ap, _∙_}
 use native.Mathlib.Omega.{arith}
 use lib.ListN.{length, take}
 use lib.Seq.{length-take-le, take-all}
-use Rattle.session.specs.Runs.{Sitting, fed}
-use Rattle.session.proofs.Pieces.{feeds-room, feeds-some, feeds-within, feeds-sits, feeds-more, piece-length}
+use Rattle.evening.specs.Runs.{Sitting, fed}
+use Rattle.evening.proofs.Pieces.{feeds-room, feeds-some, feeds-within, feeds-sits, feeds-more, piece-length}
 use Rattle.console.proofs.serve_piece.Statement.{statement}
 use Rattle.console.proofs.serve_piece.Tie as tie
 
 abbrev Inv-loop : tie.InvT-loop
-Inv-loop input out₀ s₀ at₀ out s at = (at ≤ length input) × (s ≡ fed s₀ (take at input) .session) × (length out ≡ length out₀) × Sitting s
+Inv-loop input out₀ s₀ at₀ out s at = (at ≤ length input) × (s ≡ fed s₀ (take at input) .evening) × (length out ≡ length out₀) × Sitting s
 
 abbrev μ-loop : tie.MeasureT-loop
 μ-loop input out₀ s₀ at₀ out s at = length input - at
@@ -62,7 +62,7 @@ loop-again c =
     let s = f .before .before .before .before in
     let a = s .before .before .before .args in (
       omega (arith, feeds-within (f .feed .ensures), piece-length (a .input .now) (s .loop .at), s .loop .inv .0),
-      feeds-more (a .session) (a .input .now) (s .loop .at) (s .loop .inv .1) (f .feed .ensures),
+      feeds-more (a .evening) (a .input .now) (s .loop .at) (s .loop .inv .1) (f .feed .ensures),
       search needs,
       feeds-sits (f .feed .ensures) (s .loop .inv .3),
     )
@@ -74,7 +74,7 @@ returns : tie.Need-returns Inv-loop μ-loop
 returns c =
     let s = c .before in
     let a = s .before .before .before .args in
-    s .loop .inv .1 ∙ ap (λ l. fed (a .session) l .session) (take-all (s .loop .at) (a .input .now) (omega arith))
+    s .loop .inv .1 ∙ ap (λ l. fed (a .evening) l .evening) (take-all (s .loop .at) (a .input .now) (omega arith))
 
 pub serve-piece-spec : {M : Type 1} → statement M
 serve-piece-spec =

@@ -1,7 +1,7 @@
 -- `console::serve_some` meets its contract. Assumes nothing.
 use mathlib.Core.Path.{sym, subst}
-use Rattle.session.specs.Runs.{Sitting}
-use Rattle.session.proofs.Staying.{fed-sits}
+use Rattle.evening.specs.Runs.{Sitting}
+use Rattle.evening.proofs.Staying.{fed-sits}
 use borrow.Author.Needs.{needs}
 use Rattle.console.proofs.serve_some.Statement.{statement}
 use Rattle.console.proofs.serve_some.Tie as tie
@@ -40,7 +40,7 @@ returns-2 : tie.Need-returns-2
 returns-2 c =
     let p = c .before .before in
     let s = p .before .before .before .before .before .before .before .before .before .before .before in
-    subst Sitting (sym (p .serve-piece .ensures)) (fed-sits (s .args .session) _ (s .pre .0))
+    subst Sitting (sym (p .serve-piece .ensures)) (fed-sits (s .args .evening) _ (s .pre .0))
 
 pub serve-some-spec : {M : Type 1} → statement M
 serve-some-spec =

@@ -1,0 +1,77 @@
+-- What is open stays a sketch.
+--     reply-sits, lengthened-sits, step-sits, fed-sits     after a line, a byte of it, any byte, some bytes
+--     beginning-sits  at the beginning
+-- Assumes nothing.
+use mathlib.Core.Path.{_≡_, refl}
+use mathlib.Core.Bool.{true, false, false≢true}
+use mathlib.Core.Logic.{⊎-elim}
+use mathlib.Core.List.{List, [], _∷_}
+use Prim.Native.Nat.{ℕ}
+use native.Mathlib.Omega.{arith}
+use lib.Dec.{eqb, ltb}
+use borrow.Author.Tests.{ltb-true}
+use Rattle.rule.specs.declared.Settings.{Settings}
+use Rattle.rule.specs.Rule.{isGood}
+use Rattle.rule.specs.Refusals.{Paper, answered, refused, badSettings, notOne}
+use Rattle.rule.proofs.Lists.{tested}
+use Rattle.find.proofs.Checks.{unless-told}
+use Rattle.find.specs.Finding.{countOn, nextOn}
+use Rattle.sketch.specs.Sketches.{opened, add}
+use Rattle.sketch.specs.Calls.{openOn, addOn}
+use Rattle.sketch.proofs.Facts.{sketch-facts, facts-sketch}
+use Rattle.sketch.proofs.Results.{open-again, add-again}
+use Rattle.line.specs.declared.commands.Command.{Command}
+use Rattle.line.specs.declared.commands.Command.the-variants as command
+use Rattle.line.specs.Lines.{commandOf}
+use Rattle.evening.specs.declared.Pot.{Pot}
+use Rattle.evening.specs.declared.Evening.{Evening}
+use Rattle.evening.specs.Replies.{Sits, Reply, kept, says, estimateText, countText, cellText, replied, whenOpen, openReply, addReply, replyTo, replyOf}
+use Rattle.evening.specs.Runs.{beginning, Sitting, lengthened, noted, step, fed}
+
+replied-sits : (pot : Pot) (paper : Paper) (reply : List ℕ → Reply) → Sits pot → ((values : List ℕ) → paper ≡ answered values → Sits (reply values .pot)) → Sits (replied pot paper reply .pot)
+replied-sits pot (answered values) reply w f = f values refl
+replied-sits pot (refused number block) reply w f = w
+
+open-sits : (pot : Pot) (s : Settings) → Sits pot → Sits (openReply pot s .pot)
+unfolding openOn
+open-sits pot s w =
+    replied-sits pot (openOn s) (λ values. kept (opened s)) w
+    (λ values e. record { sound = λ o. sketch-facts (opened s) (open-again s (unless-told (isGood s) badSettings (answered []) values e .0)) })
+
+add-sits : (pot : Pot) (lo hi : ℕ) → Sits pot → Sits (addReply pot lo hi .pot)
+add-sits pot lo hi w =
+    replied-sits pot (whenOpen pot (addOn (pot .sketch) lo hi)) (λ values. kept (add (pot .sketch) lo hi)) w
+    (λ values e. record { sound = λ o. sketch-facts (add (pot .sketch) lo hi) (add-again (pot .sketch) lo hi (facts-sketch (pot .sketch) (w .sound (unless-told (pot .opened) notOne (addOn (pot .sketch) lo hi) values e .0)))) })
+
+command-sits : (pot : Pot) (c : Command) → Sits pot → Sits (replyTo pot c .pot)
+unfolding replyTo
+command-sits pot (command.Settings n p a b capacity) w = open-sits pot (record { n = n; p = p; a = a; b = b; capacity = capacity }) w
+command-sits pot (command.Add lo hi) w = add-sits pot lo hi w
+command-sits pot command.Estimate w = replied-sits pot (whenOpen pot (answered [])) (λ values. says pot (estimateText (pot .sketch))) w (λ values e. w)
+command-sits pot (command.Count level lo hi) w = replied-sits pot (whenOpen pot (countOn (pot .sketch .settings) level lo hi)) (λ values. says pot (countText values)) w (λ values e. w)
+command-sits pot (command.Next level from) w = replied-sits pot (whenOpen pot (nextOn (pot .sketch .settings) level from)) (λ values. says pot (cellText values)) w (λ values e. w)
+command-sits pot command.Unknown w = w
+
+pub reply-sits : (pot : Pot) (line : List ℕ) → Sits pot → Sits (replyOf pot line .pot)
+unfolding replyOf
+reply-sits pot line w = command-sits pot (commandOf line) w
+
+pub lengthened-sits : (s : Evening) (x : ℕ) → Sitting s → ltb (s .length) 65 ≡ true → Sitting (lengthened s x)
+lengthened-sits s x w e = record { pot = w .pot; short = omega (arith, ltb-true (s .length) 65 e) }
+
+noted-sits : (s : Evening) (x : ℕ) → Sitting s → Sitting (noted s x)
+noted-sits s x w =
+    ⊎-elim (λ (e : ltb (s .length) 65 ≡ true). rw e (lengthened-sits s x w e)) (λ (e : ltb (s .length) 65 ≡ false). rw e w) (tested (ltb (s .length) 65))
+
+pub step-sits : (s : Evening) (x : ℕ) → Sitting s → Sitting (step s x .evening)
+unfolding step
+step-sits s x w =
+    ⊎-elim (λ (e : eqb x 10 ≡ true). rw e record { pot = reply-sits (s .pot) _ (w .pot); short = omega arith }) (λ (e : eqb x 10 ≡ false). rw e (noted-sits s x w)) (tested (eqb x 10))
+
+pub fed-sits : (s : Evening) (xs : List ℕ) → Sitting s → Sitting (fed s xs .evening)
+unfolding fed
+fed-sits s [] w = w
+fed-sits s (x ∷ xs) w = fed-sits (step s x .evening) xs (step-sits s x w)
+
+pub beginning-sits : Sitting beginning
+beginning-sits = record { pot = record { sound = λ e. absurd (false≢true e) }; short = omega arith }

@@ -1,0 +1,250 @@
+// A evening of potcount on bytes: each line is answered with a line, and the open sketch is kept from one to the next.
+ghost use mathlib.Core.Path.{_≡_};
+ghost use Prim.Native.Nat.{_≤_};
+ghost use lib.ListN.{length};
+ghost use Rattle.sketch.specs.Sketches.{Sound};
+ghost use Rattle.line.specs.Texts.{Stored};
+ghost use Rattle.evening.specs.Replies.{noPot, Sits, Room, Tells, refusal, kept, says, estimateText, openReply, addReply, estimateReply, countReply, nextReply, replyOf};
+ghost use Rattle.evening.specs.Runs.{beginning, Sitting, Feeds, rest};
+use line::commands::Command;
+use rule::Settings;
+use rule::answers::Answer;
+use rule::answers::Counted;
+use rule::answers::Found;
+use sketch::Sketch;
+
+// The open sketch; all zeros where none has been opened yet.
+pub struct Pot {
+    pub opened: bool,
+    pub sketch: Sketch,
+}
+
+// The pot after a line, and the place after its answer.
+pub struct Told {
+    pub pot: Pot,
+    pub next: usize,
+}
+
+// The pot, and the line so far: its first 65 bytes, one more than a line may have. The places
+// after them hold what is left of earlier lines.
+pub struct Evening {
+    pub pot: Pot,
+    pub length: usize,
+    pub line: [u8; 65],
+}
+
+// The evening after a piece of the input, how many of its bytes were taken, and how many were written.
+pub struct Fed {
+    pub evening: Evening,
+    pub taken: usize,
+    pub written: usize,
+}
+
+// Before the first byte.
+pub fn begin() -> Evening
+    ensures { λ r. ⌜ r ≡ beginning ⌝ }
+{
+    Evening {
+        pot: Pot {
+            opened: false,
+            sketch: sketch::no_sketch(),
+        },
+        length: 0,
+        line: [0; 65],
+    }
+}
+
+// `R number`
+fn refuse(pot: Pot, number: u32, out: &mut [u8], at: usize) -> Told
+    requires { ⌜ Room (now out) at ⌝ }
+    ensures { λ r. ⌜ Tells (now (out .entry)) at (refusal pot number) (now (out .exit)) r ⌝ }
+{
+    let next = line::put_refusal(out, at, number);
+    Told { pot, next }
+}
+
+// `K level cells`
+fn keep(sketch: Sketch, out: &mut [u8], at: usize) -> Told
+    requires { ⌜ Room (now out) at ⌝ }
+    ensures { λ r. ⌜ Tells (now (out .entry)) at (kept sketch) (now (out .exit)) r ⌝ }
+{
+    let next = line::put_kept(out, at, sketch.level, sketch.count);
+    Told {
+        pot: Pot {
+            opened: true,
+            sketch,
+        },
+        next,
+    }
+}
+
+// `S n p a b capacity`: a refused one leaves the open sketch.
+fn answer_open(pot: Pot, settings: Settings, out: &mut [u8], at: usize) -> Told
+    requires { ⌜ Room (now out) at ⌝ }
+    ensures { λ r. ⌜ Tells (now (out .entry)) at (openReply pot settings) (now (out .exit)) r ⌝ }
+{
+    let changed = Sketch::open(settings);
+    let answer = changed.answer;
+    let sketch = changed.sketch;
+    match answer {
+        Answer::Refused(number) => refuse(pot, number, out, at),
+        Answer::Done => keep(sketch, out, at),
+    }
+}
+
+// `A lo hi`: what is open is known to be a sketch, so that it isn't tested again.
+fn answer_add(pot: Pot, lo: u32, hi: u32, out: &mut [u8], at: usize) -> Told
+    requires { ⌜ Sits pot × Room (now out) at ⌝ }
+    ensures { λ r. ⌜ Tells (now (out .entry)) at (addReply pot lo hi) (now (out .exit)) r ⌝ }
+{
+    if !pot.opened {
+        return refuse(pot, 4, out, at);
+    }
+    let sketch = pot.sketch;
+    if !find::in_range(sketch.settings, lo, hi) {
+        return refuse(pot, 2, out, at);
+    }
+    keep(sketch.add_good(lo, hi), out, at)
+}
+
+// `E exact v` or `E about v`
+fn put_estimate(sketch: Sketch, out: &mut [u8], at: usize) -> usize
+    requires { ⌜ Sound sketch × Room (now out) at ⌝ }
+    ensures { λ r. ⌜ Stored (now (out .entry)) at (estimateText sketch) (now (out .exit)) r ⌝ }
+{
+    let level = sketch.level;
+    let count = sketch.count as u64;
+    if level == 0 {
+        return line::put_exact(out, at, count);
+    }
+    line::put_about(out, at, count << level)
+}
+
+// `E`
+fn answer_estimate(pot: Pot, out: &mut [u8], at: usize) -> Told
+    requires { ⌜ Sits pot × Room (now out) at ⌝ }
+    ensures { λ r. ⌜ Tells (now (out .entry)) at (estimateReply pot) (now (out .exit)) r ⌝ }
+{
+    if !pot.opened {
+        return refuse(pot, 4, out, at);
+    }
+    let next = put_estimate(pot.sketch, out, at);
+    Told { pot, next }
+}
+
+// `C level lo hi`
+fn answer_count(pot: Pot, level: u32, lo: u32, hi: u32, out: &mut [u8], at: usize) -> Told
+    requires { ⌜ Room (now out) at ⌝ }
+    ensures { λ r. ⌜ Tells (now (out .entry)) at (countReply pot level lo hi) (now (out .exit)) r ⌝ }
+{
+    if !pot.opened {
+        return refuse(pot, 4, out, at);
+    }
+    let counted = find::count(pot.sketch.settings, level, lo, hi);
+    match counted {
+        Counted::Count(v) => {
+            let next = line::put_count(out, at, v);
+            Told { pot, next }
+        }
+        Counted::Refused(number) => refuse(pot, number, out, at),
+    }
+}
+
+// `N level from`
+fn answer_next(pot: Pot, level: u32, from: u32, out: &mut [u8], at: usize) -> Told
+    requires { ⌜ Room (now out) at ⌝ }
+    ensures { λ r. ⌜ Tells (now (out .entry)) at (nextReply pot level from) (now (out .exit)) r ⌝ }
+{
+    if !pot.opened {
+        return refuse(pot, 4, out, at);
+    }
+    let found = find::next_hit(pot.sketch.settings, level, from);
+    match found {
+        Found::Cell(x) => {
+            let next = line::put_cell(out, at, x);
+            Told { pot, next }
+        }
+        Found::Nothing => {
+            let next = line::put_none(out, at);
+            Told { pot, next }
+        }
+        Found::Refused(number) => refuse(pot, number, out, at),
+    }
+}
+
+// The answer to a line without its newline, stored from a place on.
+pub fn answer(pot: Pot, text: &[u8], out: &mut [u8], at: usize) -> Told
+    requires { ⌜ Sits pot × Room (now out) at ⌝ }
+    ensures { λ r. ⌜ Tells (now (out .entry)) at (replyOf pot (now (text .entry))) (now (out .exit)) r ⌝ }
+{
+    let command = line::command(text);
+    match command {
+        Command::Settings {
+            n,
+            p,
+            a,
+            b,
+            capacity,
+        } => {
+            let settings = Settings {
+                n,
+                p,
+                a,
+                b,
+                capacity,
+            };
+            answer_open(pot, settings, out, at)
+        }
+        Command::Add { lo, hi } => answer_add(pot, lo, hi, out, at),
+        Command::Estimate => answer_estimate(pot, out, at),
+        Command::Count { level, lo, hi } => answer_count(pot, level, lo, hi, out, at),
+        Command::Next { level, from } => answer_next(pot, level, from, out, at),
+        Command::Unknown => refuse(pot, 9, out, at),
+    }
+}
+
+// Takes bytes of a piece of the input until it ends, or until an answer might not have room. The
+// pot is touched only where a line ends.
+pub fn feed(evening: Evening, input: &[u8], out: &mut [u8]) -> Fed
+    requires { ⌜ Sitting evening ⌝ }
+    ensures { λ r. ⌜ Feeds evening (now (input .entry)) (now (out .entry)) (now (out .exit)) r ⌝ }
+{
+    let mut pot = evening.pot;
+    let mut length = evening.length;
+    let mut line = evening.line;
+    let room = out.len();
+    let mut written = 0;
+    let mut taken = 0;
+    while taken < input.len() && 40 <= room - written {
+        let x = input[taken];
+        taken = taken + 1;
+        if x == b'\n' {
+            let told = answer(pot, &line[..length], out, written);
+            pot = told.pot;
+            length = 0;
+            written = told.next;
+        } else if length < 65 {
+            line[length] = x;
+            length = length + 1;
+        }
+    }
+    Fed {
+        evening: Evening { pot, length, line },
+        taken,
+        written,
+    }
+}
+
+// The answer to a last line without a newline, and how many bytes it has.
+pub fn finish(evening: Evening, out: &mut [u8]) -> usize
+    requires { ⌜ Sitting evening × Room (now out) 0 ⌝ }
+    ensures { λ r. ⌜ Stored (now (out .entry)) 0 (rest evening) (now (out .exit)) r ⌝ }
+{
+    let length = evening.length;
+    if length == 0 {
+        return 0;
+    }
+    let line = evening.line;
+    let told = answer(evening.pot, &line[..length], out, 0);
+    told.next
+}

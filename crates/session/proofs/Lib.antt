@@ -1,8 +1,0 @@
--- The laws of a session.
-pub mod Replying
-pub mod Staying
-pub mod Feeding
-pub mod Pieces
-pub mod Whole
-pub mod Outcomes
-pub mod Listing
