@@ -18,6 +18,12 @@ fn wide(x: u8) -> u32
     x as u32
 }
 
+fn widen(x: u16) -> u32
+    ensures { λ r. ⌜ (r ≡ x) × (x < 65536) ⌝ }
+{
+    x as u32
+}
+
 // The word in the two bytes at `at`.
 pub fn word_at(s: &[u8], at: usize) -> u32
     requires { ⌜ at + 2 ≤ length (now s) ⌝ }
@@ -45,6 +51,7 @@ fn reduced(x: u32) -> u32
 }
 
 // Both sums fit 32 bits before they are reduced: no turn of the loop divides or branches, and it runs on whole vectors.
+// The weight has 16 bits, as a word has, so that the products are of 16 bits too: those are quicker.
 // Bytes past 508 aren't read, so that a writer can fill the sums in afterwards.
 pub fn sums_of(s: &[u8]) -> Sums
     requires { ⌜ 508 ≤ length (now s) ⌝ }
@@ -52,12 +59,12 @@ pub fn sums_of(s: &[u8]) -> Sums
 {
     let mut plain: u32 = 0;
     let mut weighted: u32 = 0;
-    let mut weight: u32 = 254;
+    let mut weight: u16 = 254;
     let mut i: usize = 0;
     while i < 254 {
         let w = word_at(s, 2 * i);
         plain = plain + w;
-        weighted = weighted + weight * w;
+        weighted = weighted + widen(weight) * w;
         weight = weight - 1;
         i = i + 1;
     }

@@ -4,6 +4,7 @@
 --     count-hits      so the count over lo..hi is the count of a progression
 --     count-takes, count-up-is, count-down-is    it is what the upward count by a, and the downward count by p - a, promise
 --     count-few       at most as many as there are cells
+--     count-all       at level 0 just as many
 --     count-splits    the count splits at any cell between
 --     count-each, count-empty    it tests each cell, and none of an empty range
 --     count-none, none-count     it is 0 just where there is no next hit
@@ -23,6 +24,7 @@ use Rattle.rule.specs.Rule.{Good, hash, region, passes}
 use Rattle.rule.specs.Samples.{rangeCount, nextHit, first}
 use Rattle.rule.proofs.Lists.{filter-append, run-append}
 use Rattle.rule.proofs.Facts.{positive}
+use Rattle.rule.proofs.Passing.{passes-zero}
 use Rattle.rule.proofs.Rows.{range-suc, walk-none}
 use Rattle.count.specs.Hits.{hit, hitsUp, hitsDown, Takes}
 use Rattle.count.proofs.Laws.{hits-few, turned-up}
@@ -92,6 +94,14 @@ module _ (s : Settings) (level lo hi : ℕ) (h : Hashes) (f : Handed s level lo 
 
 pub count-few : (s : Settings) (level lo hi : ℕ) → rangeCount s level lo hi ≤ suc hi - lo
 count-few s level lo hi = omega (arith, count-hits s level lo hi, hits-few (s .p) (s .a) (hash s lo) (suc hi - lo) (region s level))
+
+run-all : (s : Settings) → 0 < s .p → (lo k : ℕ) → length (filter (passes s 0) (run lo k)) ≡ k
+run-all s h lo zero = refl
+run-all s h lo (suc k) = rw (passes-zero s lo h) (ap suc (run-all s h (suc lo) k))
+
+pub count-all : (s : Settings) (lo hi : ℕ) → Good s → rangeCount s 0 lo hi ≡ suc hi - lo
+unfolding rangeCount
+count-all s lo hi g = run-all s (positive s g) lo (suc hi - lo)
 
 pub count-splits : (s : Settings) (level lo m hi : ℕ) → lo ≤ suc m → m ≤ hi → rangeCount s level lo hi ≡ rangeCount s level lo m + rangeCount s level (suc m) hi
 unfolding rangeCount

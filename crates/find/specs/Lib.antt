@@ -1,3 +1,4 @@
 -- The definitions that the contracts cite.
 pub mod Finding
 pub mod Walking
+pub mod Striding

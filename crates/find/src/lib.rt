@@ -1,9 +1,11 @@
 // Counting and finding the passing cells of a range, without a walk over its cells.
 ghost use mathlib.Core.Path.{_≡_};
-ghost use Prim.Native.Nat.{_^_, _<_};
+ghost use Prim.Native.Nat.{_^_, _<_, _≤_};
+ghost use Rattle.rule.specs.Rule.{Good};
 ghost use Rattle.rule.specs.Samples.{rangeCount, nextHit};
 ghost use Rattle.rule.specs.Refusals.{answered, refused, ofAnswer, ofCounted, ofFound};
 ghost use Rattle.find.specs.Finding.{isCell, inRange, countOn, nextOn, hits, Within, Handed};
+ghost use Rattle.find.specs.Striding.{Least, Striding, IsHit, Next};
 ghost use Rattle.find.specs.Walking.{Starts, Steps, isWalker, noWalker};
 use rule::Settings;
 use rule::answers::Answer;
@@ -51,12 +53,15 @@ fn progression(settings: Settings, level: u32, lo: u32, hi: u32) -> Hashes
     }
 }
 
-// How many cells of lo..hi pass: their hashes are taken in the direction whose difference is at
-// most half of p.
+// How many cells of lo..hi pass: at level 0 all of them. Else their hashes are taken in the direction
+// whose difference is at most half of p.
 pub fn count_in(settings: Settings, level: u32, lo: u32, hi: u32) -> u32
     requires { ⌜ Within settings lo hi ⌝ }
     ensures { λ r. ⌜ r ≡ rangeCount settings level lo hi ⌝ }
 {
+    if level == 0 {
+        return hi + 1 - lo;
+    }
     let h = progression(settings, level, lo, hi);
     let many = if h.a <= h.p - h.a {
         count::count_up(h.p, h.a, h.start, h.cells, h.size)
@@ -75,6 +80,95 @@ pub fn first_in(settings: Settings, level: u32, lo: u32, hi: u32) -> Found
     match next::next_hit(h.p, h.a, h.start, h.size, h.cells) {
         next::Found::At(i) => Found::Cell((wide(lo) + i) as u32),
         next::Found::Nothing => Found::Nothing,
+    }
+}
+
+// A distance between cells, and by how much it changes the hash.
+pub struct Stride {
+    pub distance: u32,
+    pub change: u32,
+}
+
+impl Stride {
+    // The least distance up to `far` after which a hash that grows by a, modulo p, with each cell
+    // has grown by less than `size`. Where there is none: one past `far`, with the change `size`.
+    fn least(p: u32, a: u32, size: u32, far: u32) -> Stride
+        requires { ⌜ (p ≤ 4000000000) × (a < p) × (far < 4000000000) ⌝ }
+        ensures { λ r. ⌜ Least p a size far r ⌝ }
+    {
+        let modulus = wide(p);
+        let step = wide(a);
+        match next::next_hit(modulus, step, step, wide(size), wide(far)) {
+            next::Found::At(i) => {
+                let d = i + 1;
+                Stride {
+                    distance: d as u32,
+                    change: (d * step % modulus) as u32,
+                }
+            }
+            next::Found::Nothing => Stride {
+                distance: far + 1,
+                change: size,
+            },
+        }
+    }
+}
+
+// A passing cell, with its hash.
+pub struct Hit {
+    pub cell: u32,
+    pub hash: u32,
+}
+
+// The size of a level's region, with the least distance that raises the hash of a hit by less than
+// it, and the least that lowers the hash so.
+pub struct Strides {
+    pub size: u32,
+    pub up: Stride,
+    pub down: Stride,
+}
+
+impl Strides {
+    pub fn of(settings: Settings, level: u32, far: u32) -> Strides
+        requires { ⌜ Good settings × (far ≤ settings .n) ⌝ }
+        ensures { λ r. ⌜ Striding settings level far r ⌝ }
+    {
+        let p = settings.p;
+        let a = settings.a;
+        let size = settings.region(level);
+        Strides {
+            size,
+            up: Stride::least(p, a, size, far),
+            down: Stride::least(p, p - a, size, far),
+        }
+    }
+
+    // The next hit after one: where the hash can neither rise nor fall and stay in the region, it
+    // does both. Only the contract needs the settings, the level and `far`.
+    pub fn next(self, settings: Settings, level: u32, far: u32, hit: Hit) -> Hit
+        requires { ⌜ Good settings × Striding settings level far self × IsHit settings level hit × (hit .cell ≤ settings .n) × (far ≤ settings .n) ⌝ }
+        ensures { λ r. ⌜ Next settings level far hit r ⌝ }
+    {
+        let up = self.up;
+        let down = self.down;
+        let x = hit.cell;
+        let h = hit.hash;
+        if h < self.size - up.change {
+            Hit {
+                cell: x + up.distance,
+                hash: h + up.change,
+            }
+        } else if down.change <= h {
+            Hit {
+                cell: x + down.distance,
+                hash: h - down.change,
+            }
+        } else {
+            Hit {
+                cell: x + (up.distance + down.distance),
+                hash: up.change - (down.change - h),
+            }
+        }
     }
 }
 

@@ -2,25 +2,22 @@
 --     settings-again, sketch-again, walker-again    each comes back from its row as it was
 --     row-again, walker-row-again    and a row of 511 numbers from its sketch, a row of eight from its walker: so a refused row is unchanged
 --     zero-row, zero-walker-row    the rows of all zeros
---     cells-stored    the cells of a sketch, as the code stores them
---     row-room, row-stored    a row, as the code stores it in two parts
+--     head-stored, cells-stored, cells-lent    a row, as the code stores it in two parts
+--     parts-in, kept-in    a sketch's parts, as the code lends them
 -- Assumes nothing.
-use mathlib.Core.Path.{_≡_, refl, ap, _∙_}
+use mathlib.Core.Path.{_≡_, refl, sym, ap, _∙_, subst}
 use mathlib.Core.List.{List, [], _∷_, _++_, append-nil}
-use Prim.Native.Nat.{ℕ, _+_, _-_, _<_, _≤_}
+use Prim.Native.Nat.{ℕ, _+_, _-_, _<_}
 use native.Mathlib.Omega.{arith}
-use lib.Dec.{lit≤}
-use lib.Seq.{take-all}
-use lib.ListN.{length, take, drop, getD, replicate, length-drop, drop-of-length-le}
+use lib.Seq.{length-take-le, drop-append-seam}
+use lib.ListN.{length, take, drop, set, getD, replicate, length-drop, drop-of-length-le}
 use Rattle.rule.specs.declared.Settings.{Settings}
-use Rattle.rule.specs.Rows.{pad, placed}
-use Rattle.rule.proofs.Places.{placed-length, placed-pad, placed-after}
-use Rattle.rule.proofs.Steps.{next}
+use Rattle.rule.proofs.Steps.{next, part-rest}
 use Rattle.find.specs.declared.Walker.{Walker}
 use Rattle.find.specs.Walking.{noWalker}
 use Rattle.rows.specs.Walked.{Stored}
 use Rattle.sketch.specs.declared.Sketch.{Sketch}
-use Rattle.sketch.specs.Sketches.{sketchAt}
+use Rattle.sketch.specs.Sketches.{held, sketchAt}
 use Rattle.sketch.specs.Calls.{noSketch}
 use Rattle.host.specs.Crossing.{settingsRow, settingsIn, rowOf, sketchIn, walkerRow, walkerIn}
 
@@ -60,31 +57,38 @@ pub zero-walker-row : walkerRow noWalker ≡ replicate 8 0
 unfolding walkerRow
 zero-walker-row = refl
 
--- nothing is added to a list that is long enough
-full : (n : ℕ) (xs : List ℕ) → length xs ≡ n → pad n xs ≡ xs
-full n xs e = let none : n - length xs ≡ 0 = omega arith in rw (none, append-nil)
+-- the seven numbers stored one by one
+pub head-stored : (row : List ℕ) (s : Settings) (level count : ℕ) → length row ≡ 511
+    → set (set (set (set (set (set (set row 0 (s .n)) 1 (s .p)) 2 (s .a)) 3 (s .b)) 4 (s .capacity)) 5 level) 6 count ≡ rowOf (held s level count (drop 7 row))
+unfolding rowOf
+head-stored row s level count e =
+    subst
+    (λ (v : List ℕ). set (set (set (set (set (set (set v 0 (s .n)) 1 (s .p)) 2 (s .a)) 3 (s .b)) 4 (s .capacity)) 5 level) 6 count ≡ rowOf (held s level count (drop 7 v)))
+    (seven row (omega arith))
+    refl
 
-pub cells-stored : {next : ℕ} {after : List ℕ} (row : List ℕ) → length row ≡ 511 → Stored (replicate 504 0) 0 (take 504 (drop 7 row)) next after → after ≡ drop 7 row
-cells-stored row e s =
-    let size : length (drop 7 row) ≡ 504 = simp length-drop (omega arith) in
-    let whole : take 504 (drop 7 row) ≡ drop 7 row = take-all 504 (drop 7 row) (omega arith) in
-    s .contents ∙ ap (placed (replicate 504 0) 0) whole ∙ placed-pad 504 (drop 7 row) ∙ full 504 (drop 7 row) size
+-- what stands behind the seven numbers, where nothing follows it
+behind : (row cells rest : List ℕ) → length row ≡ 511 → rest ≡ [] → drop 7 (take 7 row ++ (cells ++ rest)) ≡ cells
+behind row cells rest e none =
+    let seam : length (take 7 row) ≡ 7 = length-take-le 7 row (omega arith) in
+    ap (λ (k : ℕ). drop k (take 7 row ++ (cells ++ rest))) (sym seam) ∙ drop-append-seam (take 7 row) (cells ++ rest) ∙ ap (λ (l : List ℕ). cells ++ l) none ∙ append-nil cells
 
--- the seven numbers before the cells
-abbrev head : Sketch → List ℕ
-head k = settingsRow (k .settings) ++ (k .level ∷ k .count ∷ [])
+-- the cells stored there, and those that a call put there
+pub cells-stored : {next : ℕ} {after : List ℕ} (row cells : List ℕ) → length row ≡ 511 → length cells ≡ 504 → Stored row 7 cells next after → drop 7 after ≡ cells
+cells-stored row cells e f s = ap (drop 7) (s .contents) ∙ behind row cells (drop (7 + length cells) row) e (drop-of-length-le row {i = 7 + length cells} (omega arith))
 
-module _ (k : Sketch) (sized : length (k .cells) ≡ 504) {i : ℕ} {first : List ℕ} (s : Stored (replicate 511 0) 0 (head k) i first) where
-  pub row-room : i + length (k .cells) ≤ length first
-  row-room =
-      let size : length (placed (replicate 511 0) 0 (head k)) ≡ 511 = placed-length (replicate 511 0) 0 (head k) (lit≤ tt) in
-      rw (s .contents, size, s .next-place) (omega arith)
+pub cells-lent : (row cells : List ℕ) → length row ≡ 511 → drop 7 (take 7 row ++ (cells ++ drop (length row - 7) (drop 7 row))) ≡ cells
+cells-lent row cells e = behind row cells (drop (length row - 7) (drop 7 row)) e (drop-of-length-le (drop 7 row) {i = length row - 7} (omega (arith, length-drop 7 row)))
 
-  pub row-stored : {j : ℕ} {after : List ℕ} → Stored first i (k .cells) j after → after ≡ rowOf k
-  unfolding rowOf
-  row-stored t =
-      t .contents
-      ∙ ap (λ (l : List ℕ). placed l i (k .cells)) (s .contents ∙ placed-pad 511 (head k))
-      ∙ ap (λ (n : ℕ). placed (pad 511 (head k)) n (k .cells)) (s .next-place)
-      ∙ placed-after 511 (head k) (k .cells)
-      ∙ full 511 (head k ++ k .cells) (omega arith)
+-- a sketch's parts, as the code lends them: the whole row behind the seven numbers
+pub parts-in : (row : List ℕ) (s : Settings) → s ≡ settingsIn row → held s (getD row 5 0) (getD row 6 0) (take (length row - 7) (drop 7 row)) ≡ sketchIn row
+unfolding sketchIn
+parts-in row s e = rw (e, part-rest row 7)
+
+-- and its kept cells alone
+pub kept-in : (row : List ℕ) (s : Settings) → s ≡ settingsIn row
+    → sketchAt s (getD row 5 0) (take (7 + getD row 6 0 - 7) (drop 7 row)) ≡ sketchAt (sketchIn row .settings) (sketchIn row .level) (take (sketchIn row .count) (sketchIn row .cells))
+unfolding sketchIn
+kept-in row s e =
+    let n : 7 + getD row 6 0 - 7 ≡ getD row 6 0 = omega arith in
+    rw (e, n)

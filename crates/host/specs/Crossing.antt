@@ -6,7 +6,8 @@ use lib.ListN.{length, drop, getD}
 use lib.IntN.{pos}
 use lib.Ieee.{Float, binary64, ofInt}
 use Rattle.rule.specs.declared.Settings.{Settings}
-use Rattle.rule.specs.Refusals.{Paper, answered, refused}
+use Rattle.rule.specs.declared.answers.Taken.{Taken}
+use Rattle.rule.specs.Refusals.{Paper, answered, refused, ofTaken}
 use Rattle.find.specs.declared.Walker.{Walker}
 use Rattle.find.specs.Walking.{walkerAt, startOn, started, stepOn, afterStep}
 use Rattle.sketch.specs.declared.Sketch.{Sketch}
@@ -77,6 +78,11 @@ Adds before lo hi r after = Gives (addOn (sketchIn before) lo hi) (add (sketchIn
 -- what merging promises, on the row lent and the other
 abbrev pub Merges : List ℕ → List ℕ → ℕ → List ℕ → Type 0
 Merges before other r after = Gives (mergeOn (sketchIn before) (sketchIn other)) (merge (sketchIn before) (sketchIn other)) (sketchIn before) r after
+
+-- an image's answer, and the row of the sketch that it spells
+pub record Fills (bytes : List ℕ) (r : Taken) (after : List ℕ) : Type 0 where
+  pub answer : ofTaken r ≡ readOn bytes
+  pub row : after ≡ rowOf (handed (readOn bytes) (spelled bytes) noSketch)
 
 -- what reading promises
 pub record ReadsIn (bytes : List ℕ) (r : ℕ) (after : List ℕ) (b : ℕ) : Type 0 where

@@ -13,10 +13,11 @@ use mathlib.Core.Bool.{Bool, true, false, not, cond, _&&_, and-eq-true-iff, and-
 use mathlib.Core.List.{List, [], _∷_, _++_, append-nil}
 use native.Mathlib.Omega.{arith}
 use lib.Dec.{eqb}
-use lib.ListN.{length, take, drop, length-append, length-drop, drop-of-length-le}
-use lib.Seq.{take-all, take-at, drop-at}
+use lib.ListN.{length, take, drop, replicate, length-append, length-drop, drop-of-length-le}
+use lib.Seq.{take-all, take-at, drop-at, length-take-le}
 use borrow.Author.Tests.{leb-true, eqb-true, eq-eqb, ne-eqb, le-leb, lt-leb, lt-ltb, le-ltb}
 use Rattle.rule.specs.declared.answers.Written.{Written}
+use Rattle.rule.specs.declared.answers.Taken.the-variants.{Done}
 use Rattle.rule.specs.Rule.{isGood}
 use Rattle.rule.specs.Rows.{placed, allZero}
 use Rattle.rule.specs.Refusals.{Paper, answered, refused, unless, badSettings, badImage, ofWritten}
@@ -29,10 +30,10 @@ use Rattle.block.proofs.Blocks.{sealed-length}
 use Rattle.sketch.specs.declared.Sketch.{Sketch}
 use Rattle.sketch.specs.Sketches.{sketchAt, isSketch}
 use Rattle.sketch.proofs.Facts.{sketch-facts}
-use Rattle.image.specs.declared.Loaded.{Loaded}
+use Rattle.image.specs.declared.Header.{Header}
 use Rattle.image.specs.Images.{headOf, blocksFor, cellBlocks, imageAs, imageOf, settingsIn, countIn, spelled}
 use Rattle.image.specs.Shapes.{Blocks, between, blockAt, blocksIn, firstWrong, blocksShaped, shaped}
-use Rattle.image.specs.Calls.{same, writeOn, roomAfter, Writes, rightLength, marked, Checked, isImage, readMarked, readOn, doneWith, refusedWith, faultIn, Hands, Reads}
+use Rattle.image.specs.Calls.{same, writeOn, roomAfter, Writes, rightLength, marked, Checked, isImage, readMarked, readOn, refusedWith, faultIn, loadedWith, Hands, Reads}
 use Rattle.image.proofs.Bodies.{head-length}
 use Rattle.image.proofs.Spelling.{shaped-same}
 
@@ -63,27 +64,30 @@ length-facts s e =
     let whole : length s % 512 ≡ 0 = eqb-true _ _ (b .1) in
     record { some = omega arith; few = most; whole = omega arith }
 
-hands : (p : Paper) (s : List ℕ) (number block : ℕ) (r : Loaded) → p ≡ refused number block → r ≡ refusedWith number block → Hands p s r
-hands p s number block r e q = record { answer = cc; sketch = cc }
+-- a refusal, and a row of zeros
+module _ (p : Paper) (s : List ℕ) (h : Header) (row : List ℕ) (zeros : row ≡ replicate 504 0) where
+  hands : (number block : ℕ) → p ≡ refused number block → h ≡ refusedWith number block → Hands p s (loadedWith h row)
+  unfolding sketchAt
+  hands number block e q = rw (e, q, zeros) (record { answer = refl; sketch = refl })
 
-module _ (s : List ℕ) (r : Loaded) where
-  pub read-length : rightLength (length s) ≡ false → r ≡ refusedWith 8 0 → Reads s r
+module _ (s : List ℕ) (h : Header) (row : List ℕ) (right : rightLength (length s) ≡ true) (good : blocksIn s ≤ firstWrong s) (e : marked s ≡ true) where
+  pub read-on : Hands (readMarked s) s (loadedWith h row) → Reads s (loadedWith h row)
   unfolding readOn
-  read-length e q = hands (readOn s) s 8 0 r (rw e) q
+  read-on q = rw (right, le-ltb (firstWrong s) (blocksIn s) good, e) q
+
+module _ (s : List ℕ) (h : Header) (row : List ℕ) (zeros : row ≡ replicate 504 0) where
+  pub read-length : rightLength (length s) ≡ false → h ≡ refusedWith 8 0 → Reads s (loadedWith h row)
+  unfolding readOn
+  read-length e q = hands (readOn s) s h row zeros 8 0 (rw e) q
 
   module _ (right : rightLength (length s) ≡ true) where
-    pub read-check : (i : ℕ) → i ≡ firstWrong s → i < blocksIn s → r ≡ refusedWith 7 i → Reads s r
+    pub read-check : (i : ℕ) → i ≡ firstWrong s → i < blocksIn s → h ≡ refusedWith 7 i → Reads s (loadedWith h row)
     unfolding readOn
-    read-check i e h q = hands (readOn s) s 7 i r (rw (right, ← e, lt-ltb i (blocksIn s) h)) q
+    read-check i e l q = hands (readOn s) s h row zeros 7 i (rw (right, ← e, lt-ltb i (blocksIn s) l)) q
 
-    module _ (good : blocksIn s ≤ firstWrong s) where
-      pub read-mark : marked s ≡ false → r ≡ refusedWith 8 0 → Reads s r
-      unfolding readOn
-      read-mark e q = hands (readOn s) s 8 0 r (rw (right, le-ltb (firstWrong s) (blocksIn s) good, e)) q
-
-      pub read-on : marked s ≡ true → Hands (readMarked s) s r → Reads s r
-      unfolding readOn
-      read-on e q = rw (right, le-ltb (firstWrong s) (blocksIn s) good, e) q
+    pub read-mark : blocksIn s ≤ firstWrong s → marked s ≡ false → h ≡ refusedWith 8 0 → Reads s (loadedWith h row)
+    unfolding readOn
+    read-mark good e q = hands (readOn s) s h row zeros 8 0 (rw (right, le-ltb (firstWrong s) (blocksIn s) good, e)) q
 
 -- no check is wrong
 pub all-right : (s : List ℕ) → blocksIn s ≤ firstWrong s → firstWrong s ≡ blocksIn s
@@ -103,21 +107,22 @@ spelled-good : (s : List ℕ) → isSketch (spelled s) ≡ true → isGood (sett
 unfolding spelled sketchAt
 spelled-good s e = facts-good (settingsIn s) (sketch-facts (spelled s) e .settings)
 
-module _ (s : List ℕ) (c : Checked s) (r : Loaded) where
-  pub marked-shape : shaped s ≡ false → r ≡ refusedWith (faultIn s) 0 → Hands (readMarked s) s r
+module _ (s : List ℕ) (c : Checked s) (h : Header) (row : List ℕ) (zeros : row ≡ replicate 504 0) (q : h ≡ refusedWith (faultIn s) 0) where
+  pub marked-shape : shaped s ≡ false → Hands (readMarked s) s (loadedWith h row)
   unfolding isImage
-  marked-shape e q = hands (readMarked s) s _ 0 r (fault s (ap (λ t. isSketch (spelled s) && t) (sym (shaped-same s c) ∙ e) ∙ and-false (isSketch (spelled s)))) q
+  marked-shape e = hands (readMarked s) s h row zeros _ 0 (fault s (ap (λ t. isSketch (spelled s) && t) (sym (shaped-same s c) ∙ e) ∙ and-false (isSketch (spelled s)))) q
 
-  pub marked-sketch : isSketch (spelled s) ≡ false → r ≡ refusedWith (faultIn s) 0 → Hands (readMarked s) s r
+  pub marked-sketch : (k : Sketch) → k ≡ spelled s → isSketch k ≡ false → Hands (readMarked s) s (loadedWith h row)
   unfolding isImage
-  marked-sketch e q = hands (readMarked s) s _ 0 r (fault s (ap (λ t. t && same s (imageOf (spelled s))) e)) q
+  marked-sketch k f e = hands (readMarked s) s h row zeros _ 0 (fault s (ap (λ t. t && same s (imageOf (spelled s))) (ap isSketch (sym f) ∙ e))) q
 
-  pub marked-done : shaped s ≡ true → isSketch (spelled s) ≡ true → r ≡ doneWith (spelled s) → Hands (readMarked s) s r
-  unfolding readMarked isImage
-  marked-done e g q =
-      let good : isGood (settingsIn s) ≡ true = spelled-good s g in
-      let p : readMarked s ≡ answered [] = rw (good, g, ← shaped-same s c, e) in
-      record { answer = cc; sketch = cc }
+pub marked-done : (s : List ℕ) → Checked s → (k : Sketch) → k ≡ spelled s → shaped s ≡ true → isSketch k ≡ true → Hands (readMarked s) s (record { taken = Done; sketch = k })
+unfolding readMarked isImage
+marked-done s c k q e i =
+    let g : isSketch (spelled s) ≡ true = ap isSketch (sym q) ∙ i in
+    let good : isGood (settingsIn s) ≡ true = spelled-good s g in
+    let p : readMarked s ≡ answered [] = rw (good, g, ← shaped-same s c, e) in
+    record { answer = cc; sketch = cc }
 
 -- the tests of the shape, as code makes them
 module _ (s : List ℕ) (n : ℕ) (said : n ≡ countIn s) where
@@ -136,14 +141,14 @@ module _ (s : List ℕ) (n : ℕ) (said : n ≡ countIn s) where
         let rest : take (length s - 512) (drop 512 s) ≡ drop 512 s = take-all (length s - 512) (drop 512 s) (rw length-drop (omega arith)) in
         rw (← said, eq-eqb (blocksIn s) (1 + blocksFor n) right, ← zeros, e, ← rest) q
 
--- the right number of blocks, which hold 504 cells at most
-pub shaped-size : (s : List ℕ) → Blocks s → shaped s ≡ true → (length s ≡ 512 * (1 + blocksFor (countIn s))) × (countIn s ≤ 504)
+-- the right number of blocks after block 0, which hold 504 cells at most
+pub shaped-size : (s : List ℕ) → Blocks s → shaped s ≡ true → (n : ℕ) → n ≡ countIn s → (length (take (length s - 512) (drop 512 s)) ≡ 512 * blocksFor n) × (n ≤ 504)
 unfolding shaped
-shaped-size s b e =
-    let n : blocksIn s ≡ 1 + blocksFor (countIn s) = eqb-true (blocksIn s) (1 + blocksFor (countIn s)) (and-eq-true-iff (eqb (blocksIn s) (1 + blocksFor (countIn s))) _ .0 e .0) in
+shaped-size s b e n said =
+    let m : blocksIn s ≡ 1 + blocksFor (countIn s) = eqb-true (blocksIn s) (1 + blocksFor (countIn s)) (and-eq-true-iff (eqb (blocksIn s) (1 + blocksFor (countIn s))) _ .0 e .0) in
     let w : length s ≡ 512 * blocksIn s = b .whole in
     let h : length s ≤ 2560 = b .few in
-    (omega arith, omega arith)
+    (length-take-le (length s - 512) (drop 512 s) (rw length-drop (omega arith)) ∙ omega arith, omega arith)
 
 module _ (s : List ℕ) where
   pub fault-image : isGood (settingsIn s) ≡ true → faultIn s ≡ 8

@@ -1,5 +1,5 @@
 -- What a sketch's numbers are at most: they fit their bytes, and its image fits 2560 bytes.
---     few, row        the number of cells, and of places
+--     few             the number of cells
 --     narrow, low, fours      settings, level and cells fit their bytes
 --     size, sketch-length     how long a sketch's image is
 --     writable        so the inner writer takes a sketch
@@ -33,7 +33,7 @@ module _ (k : Sketch) (w : Sound k) where
   pub few : length (cellsOf k) ≤ 504
   few = omega (arith, w .few, w .settings .capacity-high)
 
-  pub row : length (k .cells) ≡ 504
+  row : length (k .cells) ≡ 504
   unfolding sketchAt
   row = ap (λ (v : Sketch). length (v .cells)) (w .made) ∙ pad-length 504 (cellsOf k) few
 

@@ -1,6 +1,6 @@
 -- Images as lists: their length, and bytes with the shape of one.
 --     image-length, image-small     how long an image is, and that it is bytes
---     all-length, spelled-is, spelled-image     the sketch that bytes spell, and its image
+--     all-length, spelled-parts, spelled-image     the sketch that bytes spell, and its image
 --     image-rest, image-zeros     its cell blocks, and the zeros of block 0
 --     rights          no check is wrong
 --     shaped-back, shaped-made, shaped-same    bytes with right checks and mark have the shape just when they are the image of what they spell
@@ -12,7 +12,7 @@ use mathlib.Core.Logic.{⊎-elim}
 use mathlib.Core.List.{List, _++_}
 use native.Mathlib.Omega.{arith}
 use lib.ListN.{length, take, drop, replicate, length-append, length-drop, take-append-drop}
-use lib.Seq.{drop-at, length-take-le, take-append-seam, take-append-le, drop-append-le}
+use lib.Seq.{drop-at, length-take-le, take-all, take-append-seam, take-append-le, drop-append-le}
 use borrow.Author.Tests.{eqb-true, eq-eqb, not-false}
 use Rattle.rule.specs.declared.Settings.{Settings}
 use Rattle.rule.specs.Rows.{pad, allZero}
@@ -22,7 +22,7 @@ use Rattle.block.specs.Little.{Bytes}
 use Rattle.block.specs.Sums.{blockGood, sealed}
 use Rattle.block.proofs.Numbers.{append-small, take-small, drop-small, number-front}
 use Rattle.block.proofs.Blocks.{sealed-length, sealed-small}
-use Rattle.sketch.specs.Sketches.{sketchAt, cellsOf}
+use Rattle.sketch.specs.Sketches.{held, sketchAt, cellsOf}
 use Rattle.image.specs.Images.{mark, headOf, blocksFor, cellBlocks, imageAs, imageOf, settingsIn, levelIn, countIn, cellsIn, allCells, spelled}
 use Rattle.image.specs.Shapes.{between, blockAt, blocksIn, firstWrong, blocksShaped, shaped}
 use Rattle.image.specs.Calls.{same, marked, Checked}
@@ -57,9 +57,18 @@ module _ (s : List ℕ) where
   unfolding allCells
   all-length = cells-length (blocksFor (countIn s)) (countIn s) (drop 512 s) (omega arith)
 
-  pub spelled-is : spelled s ≡ record { settings = settingsIn s; level = levelIn s; count = countIn s; cells = pad 504 (allCells s) }
+  spelled-is : spelled s ≡ held (settingsIn s) (levelIn s) (countIn s) (pad 504 (allCells s))
   unfolding spelled sketchAt
-  spelled-is = ap (λ n. record { settings = settingsIn s; level = levelIn s; count = n; cells = pad 504 (allCells s) }) all-length
+  spelled-is = ap (λ n. held (settingsIn s) (levelIn s) n (pad 504 (allCells s))) all-length
+
+  -- read part by part
+  pub spelled-parts : (f : Settings) (level count : ℕ) (row : List ℕ) → f ≡ settingsIn s → level ≡ levelIn s → count ≡ countIn s
+      → row ≡ pad 504 (cellsIn (blocksFor count) count (take (length s - 512) (drop 512 s))) → held f level count row ≡ spelled s
+  unfolding allCells
+  spelled-parts f level count row a b c e =
+      let rest : take (length s - 512) (drop 512 s) ≡ drop 512 s = take-all (length s - 512) (drop 512 s) (rw length-drop (omega arith)) in
+      let cells = rw (rest, c) at e in
+      rw (a, b, cells, c) (sym spelled-is)
 
   pub spelled-image : imageOf (spelled s) ≡ imageAs (settingsIn s) (levelIn s) (allCells s)
   unfolding imageOf spelled sketchAt cellsOf

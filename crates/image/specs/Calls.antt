@@ -6,15 +6,16 @@ use mathlib.Core.List.{List, [], _∷_}
 use lib.Dec.{leb, ltb, eqb}
 use lib.ListN.{length, take}
 use Rattle.rule.specs.declared.answers.Written.{Written}
-use Rattle.rule.specs.declared.answers.Taken.the-variants.{Done, Refused}
+use Rattle.rule.specs.declared.answers.Taken.the-variants.{Refused}
 use Rattle.rule.specs.Rule.{isGood}
 use Rattle.rule.specs.Rows.{placed}
 use Rattle.rule.specs.Refusals.{Paper, answered, refused, unless, badSettings, notOne, noRoom, badCheck, badImage, ofWritten, ofTaken}
 use Rattle.block.specs.Little.{Bytes}
 use Rattle.sketch.specs.declared.Sketch.{Sketch}
-use Rattle.sketch.specs.Sketches.{isSketch}
+use Rattle.sketch.specs.Sketches.{held, isSketch}
 use Rattle.sketch.specs.Calls.{noSketch, handed}
 use Rattle.image.specs.declared.Loaded.{Loaded}
+use Rattle.image.specs.declared.Header.{Header}
 use Rattle.image.specs.Images.{mark, imageOf, settingsIn, spelled}
 use Rattle.image.specs.Shapes.{Blocks, blocksIn, firstWrong}
 
@@ -66,12 +67,13 @@ readOn s =
     unless (rightLength (length s)) badImage
     (cond (ltb (firstWrong s) (blocksIn s)) (refused badCheck (firstWrong s)) (unless (marked s) badImage (readMarked s)))
 
--- an answer with the sketch beside it
-abbrev pub doneWith : Sketch → Loaded
-doneWith k = record { taken = Done; sketch = k }
+-- a refusal, with zeros for the settings, the level and the number of cells
+abbrev pub refusedWith : ℕ → ℕ → Header
+refusedWith number block = record { taken = Refused number block; settings = record { n = 0; p = 0; a = 0; b = 0; capacity = 0 }; level = 0; count = 0 }
 
-abbrev pub refusedWith : ℕ → ℕ → Loaded
-refusedWith number block = record { taken = Refused number block; sketch = noSketch }
+-- an answer, and the sketch of the header's parts and a row of cells
+abbrev pub loadedWith : Header → List ℕ → Loaded
+loadedWith h cells = record { taken = h .taken; sketch = held (h .settings) (h .level) (h .count) cells }
 
 -- the number of the refusal of bytes with right checks and mark: 1 comes before 8
 unfoldable pub faultIn : List ℕ → ℕ

@@ -5,9 +5,10 @@ ghost use lib.ListN.{length, drop, replicate};
 ghost use Rattle.rule.specs.Rows.{pad, placed, allZero};
 ghost use Rattle.block.specs.Little.{Bytes, bytesOf, numberAt};
 ghost use Rattle.block.specs.Sums.{sealed};
-ghost use Rattle.image.specs.Images.{settingsBytes, headOf, bodyOf, blocksFor, cellBlocks, Writable, imageAs, settingsIn, countIn, numbersIn, cellsIn, spelled};
+ghost use Rattle.sketch.specs.Sketches.{held};
+ghost use Rattle.image.specs.Images.{settingsBytes, headOf, bodyOf, blocksFor, cellBlocks, Writable, imageAs, settingsIn, numbersIn, cellsIn};
 ghost use Rattle.image.specs.Shapes.{Blocks, firstWrong, blockShaped, blocksShaped, shaped};
-ghost use Rattle.image.specs.Calls.{Writes, Hands, Reads, Checked, rightLength, marked, readMarked, refusedWith, faultIn};
+ghost use Rattle.image.specs.Calls.{Writes, Hands, Reads, Checked, rightLength, marked, readMarked, refusedWith, faultIn, loadedWith};
 use rule::Settings;
 use rule::answers::Taken;
 use rule::answers::Written;
@@ -17,6 +18,14 @@ use sketch::Sketch;
 pub struct Loaded {
     pub taken: Taken,
     pub sketch: Sketch,
+}
+
+// The same but the cells, which go into a row that the caller lends.
+pub struct Header {
+    pub taken: Taken,
+    pub settings: Settings,
+    pub level: u32,
+    pub count: u32,
 }
 
 fn clear(s: &mut [u8])
@@ -111,26 +120,41 @@ fn put_image(room: &mut [u8], settings: Settings, level: u32, cells: &[u32])
     put_blocks(&mut room[512..], cells);
 }
 
-// Writes the image at the start of the room, and leaves what follows it untouched.
-pub fn write(sketch: Sketch, room: &mut [u8]) -> Written
-    ensures { λ r. ⌜ Writes sketch (now (room .entry)) r (now (room .exit)) ⌝ }
+// Writes the image at the start of the room, and leaves what follows it untouched. The sketch
+// is lent by its parts: its row isn't copied.
+pub fn write_from(
+    settings: Settings,
+    level: u32,
+    count: u32,
+    cells: &[u32],
+    room: &mut [u8],
+) -> Written
+    requires { ⌜ length (now cells) ≡ 504 ⌝ }
+    ensures { λ r. ⌜ Writes (held settings level count (now (cells .entry))) (now (room .entry)) r (now (room .exit)) ⌝ }
 {
-    if !sketch.good() {
+    if !sketch::is_sketch(settings, level, count, cells) {
         return Written::Refused(4);
     }
-    let count = sketch.count as usize;
-    let len = 512 * (1 + (count + 125) / 126);
+    let n = count as usize;
+    let len = 512 * (1 + (n + 125) / 126);
     if room.len() < len {
         return Written::Refused(6);
     }
-    let cells = sketch.cells;
-    put_image(
-        &mut room[0..len],
+    put_image(&mut room[0..len], settings, level, &cells[..n]);
+    Written::Length(len)
+}
+
+// The same of a sketch by value.
+pub fn write(sketch: Sketch, room: &mut [u8]) -> Written
+    ensures { λ r. ⌜ Writes sketch (now (room .entry)) r (now (room .exit)) ⌝ }
+{
+    write_from(
         sketch.settings,
         sketch.level,
-        &cells[..count],
-    );
-    Written::Length(len)
+        sketch.count,
+        &sketch.cells,
+        room,
+    )
 }
 
 // The number in the four bytes at `at`.
@@ -256,12 +280,11 @@ fn copy_cells(row: &mut [u32], s: &[u8])
     }
 }
 
-// The cells of all cell blocks, with zeros after them.
-fn cells_in(s: &[u8], count: usize) -> [u32; 504]
-    requires { ⌜ (length (now s) ≡ 512 * blocksFor count) × (count ≤ 504) ⌝ }
-    ensures { λ r. ⌜ r ≡ pad 504 (cellsIn (blocksFor count) count (now (s .entry))) ⌝ }
+// Copies the cells of all cell blocks into a row of zeros.
+fn copy_all(row: &mut [u32], s: &[u8], count: usize)
+    requires { ⌜ (now row ≡ replicate 504 0) × (length (now s) ≡ 512 * blocksFor count) × (count ≤ 504) ⌝ }
+    ensures { λ _. ⌜ now (row .exit) ≡ pad 504 (cellsIn (blocksFor count) count (now (s .entry))) ⌝ }
 {
-    let mut row = [0u32; 504];
     let blocks = s.len() / 512;
     let mut i: usize = 0;
     while i < blocks {
@@ -272,35 +295,38 @@ fn cells_in(s: &[u8], count: usize) -> [u32; 504]
         copy_cells(&mut row[from..to], &s[start..end]);
         i = i + 1;
     }
-    row
 }
 
-// The sketch that the bytes spell.
-fn sketch_in(s: &[u8]) -> Sketch
-    requires { ⌜ (length (now s) ≡ 512 * (1 + blocksFor (countIn (now s)))) × (countIn (now s) ≤ 504) ⌝ }
-    ensures { λ r. ⌜ r ≡ spelled (now (s .entry)) ⌝ }
+fn clear_row(row: &mut [u32])
+    requires { ⌜ length (now row) ≡ 504 ⌝ }
+    ensures { λ _. ⌜ now (row .exit) ≡ replicate 504 0 ⌝ }
 {
-    let count = block::word_at(s, 24);
-    let cells = cells_in(&s[512..], count as usize);
-    Sketch {
-        settings: settings_in(s),
-        level: block::word_at(s, 22),
-        count: count,
-        cells: cells,
+    let mut i: usize = 0;
+    while i < row.len() {
+        row[i] = 0;
+        i = i + 1;
     }
 }
 
-fn refuse(number: u32, block: u32) -> Loaded
+fn refuse(number: u32, block: u32) -> Header
     ensures { λ r. ⌜ r ≡ refusedWith number block ⌝ }
 {
-    Loaded {
+    Header {
         taken: Taken::Refused { number, block },
-        sketch: sketch::no_sketch(),
+        settings: Settings {
+            n: 0,
+            p: 0,
+            a: 0,
+            b: 0,
+            capacity: 0,
+        },
+        level: 0,
+        count: 0,
     }
 }
 
 // The refusal of bytes with right checks and mark: 1 comes before 8.
-fn refuse_marked(s: &[u8]) -> Loaded
+fn refuse_marked(s: &[u8]) -> Header
     requires { ⌜ 512 ≤ length (now s) ⌝ }
     ensures { λ r. ⌜ r ≡ refusedWith (faultIn (now (s .entry))) 0 ⌝ }
 {
@@ -312,27 +338,37 @@ fn refuse_marked(s: &[u8]) -> Loaded
 }
 
 // The settings are looked at by themselves only where the bytes are no image: a sketch's are good.
-fn read_marked(s: &[u8]) -> Loaded
-    requires { ⌜ Checked (now s) ⌝ }
-    ensures { λ r. ⌜ Hands (readMarked (now (s .entry))) (now (s .entry)) r ⌝ }
+// The row is filled before it is known to be a sketch's, so a refusal clears it again.
+fn read_marked(s: &[u8], cells: &mut [u32]) -> Header
+    requires { ⌜ Checked (now s) × (now cells ≡ replicate 504 0) ⌝ }
+    ensures { λ r. ⌜ Hands (readMarked (now (s .entry))) (now (s .entry)) (loadedWith r (now (cells .exit))) ⌝ }
 {
     if !well_shaped(s) {
         return refuse_marked(s);
     }
-    let sketch = sketch_in(s);
-    if !sketch.good() {
+    let settings = settings_in(s);
+    let level = block::word_at(s, 22);
+    let count = block::word_at(s, 24);
+    copy_all(cells, &s[512..], count as usize);
+    if !sketch::is_sketch(settings, level, count, cells) {
+        clear_row(cells);
         return refuse_marked(s);
     }
-    Loaded {
+    Header {
         taken: Taken::Done,
-        sketch,
+        settings,
+        level,
+        count,
     }
 }
 
-// Reads an image. It tests the bytes where they stand, and never writes the image anew to compare.
-pub fn read(bytes: &[u8]) -> Loaded
-    ensures { λ r. ⌜ Reads (now (bytes .entry)) r ⌝ }
+// Reads an image, and leaves the sketch's cells in the row lent, or zeros with a refusal. It tests
+// the bytes where they stand, and never writes the image anew to compare.
+pub fn read_into(bytes: &[u8], cells: &mut [u32]) -> Header
+    requires { ⌜ length (now cells) ≡ 504 ⌝ }
+    ensures { λ r. ⌜ Reads (now (bytes .entry)) (loadedWith r (now (cells .exit))) ⌝ }
 {
+    clear_row(cells);
     if !right_length(bytes.len()) {
         return refuse(8, 0);
     }
@@ -343,5 +379,22 @@ pub fn read(bytes: &[u8]) -> Loaded
     if !has_mark(bytes) {
         return refuse(8, 0);
     }
-    read_marked(bytes)
+    read_marked(bytes, cells)
+}
+
+// The same, with the sketch by value.
+pub fn read(bytes: &[u8]) -> Loaded
+    ensures { λ r. ⌜ Reads (now (bytes .entry)) r ⌝ }
+{
+    let mut cells = [0u32; 504];
+    let header = read_into(bytes, &mut cells);
+    let taken = header.taken;
+    let settings = header.settings;
+    let sketch = Sketch {
+        settings,
+        level: header.level,
+        count: header.count,
+        cells,
+    };
+    Loaded { taken, sketch }
 }

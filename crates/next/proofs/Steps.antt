@@ -1,157 +1,219 @@
--- The laws by which the functions' proofs go: where a round starts, the law of rounds, the mirrored progression. Assumes nothing.
-use mathlib.Core.Path.{_≡_, refl, sym, ap, _∙_, subst}
-use Prim.Native.Nat.{ℕ, _+_, _-_, _*_, _/_, _%_, _<_, _≤_}
-use native.Mathlib.Nat.{lt-of-not-le, mul-le-mul-right, mul-le-mul-left, mul-le-mul, div-lt-iff-lt-mul, le-div-iff-mul-le, mod-lt, mod-eq-of-lt, add-mod, mod-eq-sub-mod, add-mul-mod-self-right, mul-add-mod-self-right, div-add-mod'}
-use native.Mathlib.Decide.{decLe}
+-- The laws by which the functions' proofs go: the first elements of the rounds, as they are or mirrored, and what the search's answer says of the hits. Assumes nothing.
+use mathlib.Core.Path.{_≡_, ap, _∙_}
+use Prim.Native.Nat.{ℕ, zero, suc, _+_, _-_, _*_, _/_, _%_, _<_, _≤_}
+use native.Mathlib.Nat.{lt-of-not-le, mul-le-mul-right, mul-le-mul-left, mod-lt, mod-le, mod-eq-of-lt, mul-add-mod-self-right, div-add-mod'}
 use native.Mathlib.Omega.{arith, by-contra}
-use Rattle.next.specs.Hit.{Hit, First, Answer, Takes}
-use Rattle.next.specs.Rounds.{round, foot, rounds, RoundsAnswer}
-use Rattle.next.specs.declared.Found.{Found}
+use Rattle.next.specs.Hit.{Hit, Answer}
+use Rattle.next.specs.Rounds.{HitIn, Least, Searched}
 use Rattle.next.specs.declared.Found.the-variants.{At, Nothing}
 
-pub product-fits : (k p : ℕ) → k ≤ 4000000000 → p ≤ 4000000000 → k * p ≤ 16000000000000000000
-product-fits k p hk hp = mul-le-mul {n₂ = 4000000000} {m₂ = 4000000000} hk hp
+-- the index of the first element of round 1, and that element modulo p
+abbrev pub first : ℕ → ℕ → ℕ → ℕ
+first p a u = (p - u + (a - 1)) / a
 
-pub at-least : (k p : ℕ) → 0 < k → p ≤ k * p
-at-least k p pk = omega (arith, mul-le-mul-right {m = 1} {n = k} p pk)
+abbrev pub foot : ℕ → ℕ → ℕ → ℕ
+foot p a u = u + first p a u * a - p
 
--- where the rounds start
-module _ (p a u : ℕ) (t : Takes p a u) (pos : 0 < a) where
-  round-low : (k : ℕ) → 0 < k → k * p ≤ u + round p a u k * a
-  unfolding round
-  round-low k pk = omega (arith, at-least k p pk, div-add-mod' (k * p - u + (a - 1)) a, mod-lt (k * p - u + (a - 1)) pos)
+-- what the search knows where the progression moves: of round 1, and that its numbers fit
+pub record Moving (p a u w : ℕ) : Type 0 where
+  pub foot-at : u + first p a u * a ≡ p + foot p a u
+  pub foot-low : foot p a u < a
+  pub later : 0 < first p a u
+  pub rest-low : p % a < a
+  pub small : p ≤ 4000000000
+  pub few : first p a u ≤ p
+  pub weighs : first p a u * w ≤ 4000000000
+  pub inner-small : w * (p / a) * a ≤ 4000000000
+  pub inner-weight : 0 < w * (p / a)
+  pub inner-weighs : w * (p / a) ≤ 4000000000
 
-  round-high : (k : ℕ) → 0 < k → u + round p a u k * a < k * p + a
-  unfolding round
-  round-high k pk = omega (arith, at-least k p pk, div-add-mod' (k * p - u + (a - 1)) a, mod-lt (k * p - u + (a - 1)) pos)
+-- element i is in a round up to i, as the difference is at most p
+few-rounds : (p a u k i : ℕ) → u < p → a ≤ p → k * p ≤ u + i * a → k ≤ i
+few-rounds p a u k i up ap h =
+    by-contra k i (λ z. omega (arith, mul-le-mul-right {m = suc i} {n = k} p z, mul-le-mul-left {m = a} {n = p} i ap))
 
-  round-least : (k i : ℕ) → 0 < k → k * p ≤ u + i * a → round p a u k ≤ i
-  round-least k i pk h =
-      by-contra (round p a u k) i
-      (λ z. omega (arith, mul-le-mul-right {m = i + 1} {n = round p a u k} a (omega arith), round-high k pk))
+none-answer : (p a u l w b : ℕ) → ((i k : ℕ) → i * w < b → ¬ HitIn p a u l k i) → Least p a u l w b 0 0
+none-answer p a u l w b none =
+    record { hit = λ h. absurd (omega arith); near = λ h. absurd (omega arith); least = λ i k h z. absurd (none i k h z) }
 
-  foot-low : u + round p a u 1 * a ≡ p + foot p a u
-  unfolding foot
-  foot-low = omega (arith, round-low 1 (omega arith))
+pub still-answer : (p a u l w b : ℕ) → Searched p a u l w → a ≡ 0 → Least p a u l w b 0 0
+still-answer p a u l w b t e = none-answer p a u l w b none
+  where
+    none : (i k : ℕ) → i * w < b → ¬ HitIn p a u l k i
+    none i zero h z = omega (arith, z .high)
+    none i (suc k) h z = omega (arith, z .low, ap (λ (y : ℕ). i * y) e)
 
-  foot-high : foot p a u < a
-  foot-high = omega (arith, round-high 1 (omega arith), foot-low)
+module _ (p a u l w : ℕ) (t : Searched p a u l w) (pos : 0 < a) where
+  foot-sum : (u + first p a u * a ≡ p + foot p a u) × (foot p a u < a) × (0 < first p a u)
+  foot-sum =
+      let x = p - u + (a - 1) in
+      let e = div-add-mod' x a in
+      let r = mod-lt x pos in
+      (omega arith, omega arith, lt-of-not-le (λ z. omega (arith, mul-le-mul-right {m = first p a u} {n = 0} a z)))
 
-  -- modulo a, the first elements of the rounds are themselves a progression
-  first-at : (d x : ℕ) → u + round p a u (d + 1) * a ≡ (d + 1) * p + x → x < a → (foot p a u + d * (a - p % a)) % a ≡ x
-  first-at d x g xa =
-      sym (add-mul-mod-self-right (foot p a u + d * (a - p % a)) (round p a u (d + 1)) a)
-      ∙ ap (λ (y : ℕ). y % a) same
-      ∙ add-mul-mod-self-right x (round p a u 1 + d * (p / a + 1)) a
-      ∙ mod-eq-of-lt xa
-    where
-      turn : p + (a - p % a) ≡ (p / a + 1) * a
-      turn = omega (arith, mod-lt p pos, div-add-mod' p a)
+  rest : (p % a < a) × (p / a * a + p % a ≡ p)
+  rest = (mod-lt p pos, div-add-mod' p a)
 
-      turns : d * (p + (a - p % a)) ≡ d * (p / a + 1) * a
-      turns = ap (λ (y : ℕ). d * y) turn ∙ omega arith
+  first-few : first p a u ≤ p
+  first-few =
+      by-contra (first p a u) p
+      (λ z. omega (arith, mul-le-mul-right {m = suc p} {n = first p a u} a z, mul-le-mul-left {m = 1} {n = a} p pos, foot-sum))
 
-      same : foot p a u + d * (a - p % a) + round p a u (d + 1) * a ≡ x + (round p a u 1 + d * (p / a + 1)) * a
-      same = omega (arith, turns, foot-low, g)
+  some-round : 0 < p / a
+  some-round = lt-of-not-le (λ z. omega (arith, mul-le-mul-right {m = p / a} {n = 0} a z, rest))
 
--- the law of rounds, for a progression that starts at no hit
-module _ (p a u l : ℕ) (t : Takes p a u) (pos : 0 < a) (lu : l ≤ u) where
-  -- a hit is past round 0
-  past : (i : ℕ) → Hit p a u l i → ((u + i * a) / p - 1 + 1) * p + (u + i * a) % p ≡ u + i * a
-  past i h = ap (λ (y : ℕ). y * p + (u + i * a) % p) one ∙ div-add-mod' (u + i * a) p
-    where
-      one : (u + i * a) / p - 1 + 1 ≡ (u + i * a) / p
-      one =
-          let later : 1 ≤ (u + i * a) / p = by-contra 1 ((u + i * a) / p) (λ z. omega (arith, div-add-mod' (u + i * a) p, mul-le-mul-right {m = (u + i * a) / p} {n = 0} p (omega arith))) in
-          omega arith
+  pub moving : Moving p a u w
+  moving =
+      record {
+        foot-at = foot-sum .0;
+        foot-low = foot-sum .1;
+        later = foot-sum .2;
+        rest-low = rest .0;
+        small = omega (arith, mul-le-mul-right {m = 1} {n = w} p (t .weight));
+        few = first-few;
+        weighs = omega (arith, mul-le-mul-right {m = first p a u} {n = p} w first-few);
+        inner-small = omega (arith, mul-le-mul-left {m = p / a * a} {n = p} w (omega (arith, rest)));
+        inner-weight = omega (arith, mul-le-mul-left {m = 1} {n = p / a} w some-round);
+        inner-weighs = omega (arith, mul-le-mul-left {m = 1} {n = a} (w * (p / a)) pos, mul-le-mul-left {m = p / a * a} {n = p} w (omega (arith, rest)));
+      }
 
-  -- where a round has a hit, its first element is one
-  low : (i d : ℕ) → (d + 1) * p + (u + i * a) % p ≡ u + i * a → Hit p a u l i → Hit a (a - p % a) (foot p a u) l d
-  low i d e h =
-      let s = round p a u (d + 1) in
-      let lo : (d + 1) * p ≤ u + s * a = round-low p a u t pos (d + 1) (omega arith) in
-      let hi : u + s * a < (d + 1) * p + a = round-high p a u t pos (d + 1) (omega arith) in
-      let least : s ≤ i = round-least p a u t pos (d + 1) i (omega arith) (omega arith) in
-      omega
-      (arith, mul-le-mul-right {m = s} {n = i} a least, first-at p a u t pos d (u + s * a - (d + 1) * p) (omega arith) (omega arith))
+  -- before round 1 the elements rise from u
+  none-before : (i k : ℕ) → i < first p a u → ¬ HitIn p a u l k i
+  none-before i zero h z = omega (arith, z .high)
+  none-before i (suc k) h z = omega (arith, mul-le-mul-right {m = suc i} {n = first p a u} a h, z .low, foot-sum)
 
-  raise-at : (d : ℕ) → First a (a - p % a) (foot p a u) l d → First p a u l (round p a u (d + 1))
-  raise-at d f = record { hit = hits; least = none }
-    where
-      hits : Hit p a u l (round p a u (d + 1))
-      hits =
-          let s = round p a u (d + 1) in
-          let x = u + s * a - (d + 1) * p in
-          let lo : (d + 1) * p ≤ u + s * a = round-low p a u t pos (d + 1) (omega arith) in
-          let hi : u + s * a < (d + 1) * p + a = round-high p a u t pos (d + 1) (omega arith) in
-          let g : u + s * a ≡ (d + 1) * p + x = omega arith in
-          let m : (u + s * a) % p ≡ x = ap (λ (y : ℕ). y % p) g ∙ mul-add-mod-self-right (d + 1) p x ∙ mod-eq-of-lt (omega arith) in
-          omega (arith, first-at p a u t pos d x g (omega arith), f .hit)
+  module _ (b : ℕ) where
+    pub past-answer : b ≤ first p a u * w → Least p a u l w b 0 0
+    past-answer h =
+        none-answer p a u l w b (λ i k g. none-before i k (lt-of-not-le (λ z. omega (arith, mul-le-mul-right {m = first p a u} {n = i} w z))))
 
-      none : (j : ℕ) → j < round p a u (d + 1) → ¬ Hit p a u l j
-      none j js h =
-          let c = (u + j * a) / p - 1 in
-          let e : (c + 1) * p + (u + j * a) % p ≡ u + j * a = past j h in
-          let before : c + 1 ≤ d = by-contra (c + 1) d (λ z. omega (arith, round-least p a u t pos (d + 1) j (omega arith) (omega (arith, mul-le-mul-right {m = d + 1} {n = c + 1} p (omega arith))))) in
-          f .least c (omega arith) (low j c e h)
+    pub first-answer : foot p a u < l → Least p a u l w b (first p a u) 1
+    first-answer h =
+        record {
+          hit = λ g. record { low = omega (arith, foot-sum); high = omega (arith, foot-sum) };
+          near = λ g. lt-of-not-le (λ z. omega (arith, mul-le-mul-right {m = p} {n = first p a u} a z, mul-le-mul-left {m = 1} {n = a} p pos, foot-sum));
+          least = λ i k g z. (omega arith, by-contra (first p a u) i (λ y. none-before i k y z));
+        }
 
-  module _ (n : ℕ) (pn : 0 < n) where
-    -- a round starts within the first n elements where it is not past the last one's
-    within : (k : ℕ) → 0 < k → k ≤ rounds p a u n → round p a u k < n
-    unfolding rounds
-    within k pk h =
-        omega
-        (arith, round-least p a u t pos k (n - 1) pk (le-div-iff-mul-le {k = p} {x = k} {y = u + (n - 1) * a} (omega arith) .0 h))
+  rounds : (d : ℕ) → d * (p / a * a) + d * (p % a) ≡ d * p
+  rounds d = let z : d * (p / a * a + p % a) ≡ d * p = ap (λ (y : ℕ). d * y) (rest .1) in omega arith
 
-    pub raised-at : (d s : ℕ) (x : Found) → RoundsAnswer p a u l n x → x ≡ At d → s ≡ round p a u (d + 1) → Answer p a u l n (At s)
-    unfolding Answer
-    raised-at d s x f e g = up (subst (RoundsAnswer p a u l n) e f)
-      where
-        up : (d < rounds p a u n) × First a (a - p % a) (foot p a u) l d → (s < n) × First p a u l s
-        up h =
-            (omega (arith, within (d + 1) (omega arith) (omega (arith, h .0))), subst (λ (y : ℕ). First p a u l y) (sym g) (raise-at d (h .1)))
+  -- each round has p / a elements or more
+  in-time : (d i : ℕ) → HitIn p a u l (d + 1) i → first p a u + d * (p / a) ≤ i
+  in-time d i z =
+      by-contra (first p a u + d * (p / a)) i
+      (λ y. omega (arith, mul-le-mul-right {m = suc i} {n = first p a u + d * (p / a)} a y, rounds d, z .low, foot-sum))
 
-    pub raised-none : (x : Found) → RoundsAnswer p a u l n x → x ≡ Nothing → Answer p a u l n Nothing
-    unfolding Answer rounds
-    raised-none x f e i h z =
-        let d = (u + i * a) / p - 1 in
-        let g : (d + 1) * p + (u + i * a) % p ≡ u + i * a = past i z in
-        let k : d + 1 ≤ (u + (n - 1) * a) / p = le-div-iff-mul-le {k = p} {x = d + 1} {y = u + (n - 1) * a} (omega arith) .1 (omega (arith, mul-le-mul-right {m = i} {n = n - 1} a (omega arith))) in
-        subst (RoundsAnswer p a u l n) e f d (omega arith) (low i d g z)
+  module _ (lf : l ≤ foot p a u) where
+    -- index i and round d + 1 of a hit, against index d and round m of the first elements, as they are or mirrored
+    same-up : (d i m : ℕ) → i + m ≡ first p a u + d * (p / a + 1) → foot p a u + d * (a - p % a) + (d + 1) * p ≡ m * a + (u + i * a)
+    same-up d i m g =
+        let y : a - p % a + p % a ≡ a = omega (arith, rest) in
+        let z : d * (a - p % a + p % a) ≡ d * a = ap (λ (y : ℕ). d * y) y in
+        let w : (i + m) * a ≡ (first p a u + d * (p / a + 1)) * a = ap (λ (y : ℕ). y * a) g in
+        omega (arith, rounds d, foot-sum)
 
--- the mirrored progression: two elements at one index add up to l - 1 modulo m, so that both are hits or neither is
-module _ (m d v l : ℕ) (dm : d ≤ m) (vm : v < m) (pl : 0 < l) (lv : l ≤ v) where
-  mirrored : (i : ℕ) → ((v + i * (m - d)) % m + (m - v + l - 1 + i * d) % m) % m ≡ l - 1
-  mirrored i =
-      let z : m - d + d ≡ m = omega arith in
-      let w : i * (m - d + d) ≡ i * m = ap (λ (y : ℕ). i * y) z in
-      let e : v + i * (m - d) + (m - v + l - 1 + i * d) ≡ l - 1 + (i + 1) * m = omega arith in
-      sym (add-mod (v + i * (m - d)) (m - v + l - 1 + i * d) m)
-      ∙ ap (λ (y : ℕ). y % m) e
-      ∙ add-mul-mod-self-right (l - 1) (i + 1) m
-      ∙ mod-eq-of-lt (omega arith)
+    same-mirrored : (d i m : ℕ) → i + 1 ≡ first p a u + d * (p / a) + m → a - foot p a u + l - 1 + d * (p % a) + (u + i * a) + 1 ≡ m * a + (d + 1) * p + l
+    same-mirrored d i m g =
+        let w : (i + 1) * a ≡ (first p a u + d * (p / a) + m) * a = ap (λ (y : ℕ). y * a) g in
+        omega (arith, rounds d, foot-sum)
 
-  both : (x y : ℕ) → x < m → y < m → (x + y) % m ≡ l - 1 → (x < l → y < l) × (y < l → x < l)
-  both x y xm ym e =
-      elim (decLe m (x + y)) [
-        | yes h ↦
-            let g : x + y - m ≡ l - 1 = sym (mod-eq-of-lt (omega arith)) ∙ sym (mod-eq-sub-mod h) ∙ e in
-            (λ z. omega arith, λ z. omega arith)
-        | no f ↦
-            let g : x + y ≡ l - 1 = sym (mod-eq-of-lt (lt-of-not-le f)) ∙ e in
-            (λ z. omega arith, λ z. omega arith)
-      ]
+    lower-up : (d i : ℕ) → HitIn p a u l (d + 1) i → HitIn a (a - p % a) (foot p a u) l (first p a u + d * (p / a + 1) - i) d
+    lower-up d i z =
+        let s = first p a u + d * (p / a + 1) in
+        let h : i ≤ s = by-contra i s (λ y. omega (arith, mul-le-mul-right {m = suc s} {n = i} a y, rounds d, mul-le-mul-left {m = p % a} {n = a} d (omega (arith, rest)), z .high, foot-sum)) in
+        let g = same-up d i (s - i) (omega arith) in
+        record { low = omega (arith, z .low); high = omega (arith, z .high) }
 
-  alike : (i : ℕ) → (Hit m (m - d) v l i → Hit m d (m - v + l - 1) l i) × (Hit m d (m - v + l - 1) l i → Hit m (m - d) v l i)
-  alike i =
-      both ((v + i * (m - d)) % m) ((m - v + l - 1 + i * d) % m) (mod-lt (v + i * (m - d)) (omega arith)) (mod-lt (m - v + l - 1 + i * d) (omega arith)) (mirrored i)
+    lower-mirrored : (d i : ℕ) → HitIn p a u l (d + 1) i → HitIn a (p % a) (a - foot p a u + l - 1) l (i + 1 - (first p a u + d * (p / a))) d
+    lower-mirrored d i z =
+        let g = same-mirrored d i (i + 1 - (first p a u + d * (p / a))) (omega (arith, in-time d i z)) in
+        record { low = omega (arith, z .high); high = omega (arith, z .low) }
 
-  mirror : (n : ℕ) (x : Found) → Answer m d (m - v + l - 1) l n x → Answer m (m - d) v l n x
+    -- the answer, from that of the first elements: a hit at index d, or none where m is 0
+    module _ (b d m : ℕ) (inner : (e i : ℕ) → e * (w * (p / a)) < b - first p a u * w → HitIn p a u l (e + 1) i → (0 < m) × (d ≤ e)) where
+      outer : (i k : ℕ) → i * w < b → HitIn p a u l k i → (0 < m) × (d < k)
+      outer i zero h z = absurd (omega (arith, z .high))
+      outer i (suc k) h z =
+          let y : HitIn p a u l (k + 1) i = record { low = omega (arith, z .low); high = omega (arith, z .high) } in
+          let g = inner k i (omega (arith, mul-le-mul-right {m = first p a u + k * (p / a)} {n = i} w (in-time k i y))) y in
+          (g .0, omega arith)
+
+      raise-none : m ≡ 0 → Least p a u l w b 0 0
+      raise-none e = none-answer p a u l w b (λ i k h z. omega (arith, outer i k h z))
+
+      raise-hit : (i : ℕ) → d < a → HitIn p a u l (d + 1) i → Least p a u l w b i (d + 1)
+      raise-hit i da z =
+          record {
+            hit = λ h. z;
+            near = λ h. lt-of-not-le (λ y. omega (arith, mul-le-mul-right {m = p} {n = i} a y, mul-le-mul-right {m = suc d} {n = a} p da, z .high));
+            least = λ j k h y. (omega arith, by-contra i j (λ x. omega (arith, mul-le-mul-right {m = suc j} {n = i} a x, mul-le-mul-right {m = suc d} {n = k} p (outer j k h y .1), y .low, z .high, foot-sum)));
+          }
+
+    module _ (b d m : ℕ) (x : Least a (a - p % a) (foot p a u) l (w * (p / a)) (b - first p a u * w) d m) where
+      up-inner : (e i : ℕ) → e * (w * (p / a)) < b - first p a u * w → HitIn p a u l (e + 1) i → (0 < m) × (d ≤ e)
+      up-inner e i h z = x .least e (first p a u + e * (p / a + 1) - i) h (lower-up e i z)
+
+      pub up-none : m ≡ 0 → Least p a u l w b 0 0
+      up-none = raise-none b d m up-inner
+
+      pub up-few : 0 < m → (m ≤ d) × (d < a) × (d * (p / a + 1) ≤ 2 * p)
+      up-few h =
+          (few-rounds a (a - p % a) (foot p a u) m d (foot-sum .1) (omega arith) (x .hit h .low), x .near h, omega (arith, mul-le-mul-right {m = d} {n = a} (p / a + 1) (omega (arith, x .near h)), rest))
+
+      pub up-hit : 0 < m → Least p a u l w b (first p a u + d * (p / a + 1) - m) (d + 1)
+      up-hit h =
+          let i = first p a u + d * (p / a + 1) - m in
+          let g = same-up d i m (omega (arith, up-few h)) in
+          raise-hit b d m up-inner i (x .near h) (record { low = omega (arith, x .hit h .low); high = omega (arith, x .hit h .high) })
+
+    module _ (b d m : ℕ) (x : Least a (p % a) (a - foot p a u + l - 1) l (w * (p / a)) (b - first p a u * w) d m) where
+      mirrored-inner : (e i : ℕ) → e * (w * (p / a)) < b - first p a u * w → HitIn p a u l (e + 1) i → (0 < m) × (d ≤ e)
+      mirrored-inner e i h z = x .least e (i + 1 - (first p a u + e * (p / a))) h (lower-mirrored e i z)
+
+      pub mirrored-none : m ≡ 0 → Least p a u l w b 0 0
+      mirrored-none = raise-none b d m mirrored-inner
+
+      pub mirrored-few : 0 < m → (m ≤ d) × (d < a) × (d * (p / a) ≤ p)
+      mirrored-few h =
+          (few-rounds a (p % a) (a - foot p a u + l - 1) m d (omega (arith, foot-sum)) (omega (arith, rest)) (x .hit h .low), x .near h, omega (arith, mul-le-mul-right {m = d} {n = a} (p / a) (omega (arith, x .near h)), rest))
+
+      pub mirrored-hit : 0 < m → Least p a u l w b (first p a u + d * (p / a) + m - 1) (d + 1)
+      mirrored-hit h =
+          let i = first p a u + d * (p / a) + m - 1 in
+          let g = same-mirrored d i m (omega (arith, foot-sum)) in
+          raise-hit b d m mirrored-inner i (x .near h) (record { low = omega (arith, x .hit h .high); high = omega (arith, x .hit h .low) })
+
+-- the round of a hit is what the modulus takes away
+hit-in : (p a u l i : ℕ) → Hit p a u l i → HitIn p a u l ((u + i * a) / p) i
+hit-in p a u l i h = let e = div-add-mod' (u + i * a) p in record { low = omega arith; high = omega arith }
+
+in-hit : (p a u l k i : ℕ) → HitIn p a u l k i → Hit p a u l i
+in-hit p a u l k i z =
+    let v = u + i * a - k * p in
+    let e : u + i * a ≡ k * p + v = omega (arith, z .low) in
+    let g : (u + i * a) % p ≡ v % p = ap (λ (y : ℕ). y % p) e ∙ mul-add-mod-self-right k p v in
+    omega (arith, mod-le v p, z .high)
+
+-- what the search's answer says of the hits among the first n elements
+module _ (p a u l n index round : ℕ) (x : Least p a u l 1 n index round) where
+  found : (i : ℕ) → i < n → Hit p a u l i → (0 < round) × (index ≤ i)
+  found i h z = x .least i ((u + i * a) / p) (omega arith) (hit-in p a u l i z)
+
+  pub answer-found : 0 < round → index < n → Answer p a u l n (At index)
   unfolding Answer
-  mirror n (At i) f = (f .0, record { hit = alike i .1 (f .1 .hit); least = λ j h z. f .1 .least j h (alike j .0 z) })
-  mirror n Nothing f = λ i h z. f i h (alike i .0 z)
+  answer-found r h =
+      (h, record { hit = in-hit p a u l round index (x .hit r); least = λ i g z. omega (arith, found i (omega arith) z) })
 
--- the answers that need no smaller modulus
+  pub answer-none : round ≡ 0 → Answer p a u l n Nothing
+  unfolding Answer
+  answer-none r i h z = omega (arith, found i h z)
+
+  pub answer-later : n ≤ index → Answer p a u l n Nothing
+  unfolding Answer
+  answer-later g i h z = omega (arith, found i h z)
+
+-- the answers that need no search
 pub answer-empty : (p a u l n : ℕ) → n ≡ 0 → Answer p a u l n Nothing
 unfolding Answer
 answer-empty p a u l n e i h z = omega arith
@@ -166,52 +228,3 @@ answer-here p a u l n up ul pn =
     let z : u + 0 * a ≡ u = omega arith in
     let e : (u + 0 * a) % p ≡ u = ap (λ (y : ℕ). y % p) z ∙ mod-eq-of-lt up in
     (pn, record { hit = omega arith; least = λ j h. absurd (omega arith) })
-
-pub answer-rising : (p a u l n : ℕ) → l ≤ u → u + (n - 1) * a < p → Answer p a u l n Nothing
-unfolding Answer
-answer-rising p a u l n lu h i lt z =
-    let e : (u + i * a) % p ≡ u + i * a = mod-eq-of-lt (omega (arith, mul-le-mul-right {m = i} {n = n - 1} a (omega arith))) in
-    omega arith
-
--- the progression moves where its last element is past round 0
-pub moves : (p a u n : ℕ) → u < p → p ≤ u + (n - 1) * a → 0 < a
-moves p a u n up h = by-contra 1 a (λ z. omega (arith, mul-le-mul-left {m = a} {n = 0} (n - 1) (omega arith)))
-
-pub rounds-few : (p a u n : ℕ) → Takes p a u → 0 < n → (u + (n - 1) * a) / p ≤ n
-rounds-few p a u n t pn =
-    let h : (u + (n - 1) * a) / p < n - 1 + 1 = div-lt-iff-lt-mul {k = p} {x = u + (n - 1) * a} {y = n - 1 + 1} (omega arith) .1 (omega (arith, mul-le-mul-left {m = a} {n = p} (n - 1) (omega arith))) in
-    omega arith
-
-pub raised-few : (p a u l n d : ℕ) (x : Found) → Takes p a u → 0 < n → RoundsAnswer p a u l n x → x ≡ At d → d < n
-unfolding Answer rounds
-raised-few p a u l n d x t pn f e =
-    omega
-    (arith, rounds-few p a u n t pn, subst (RoundsAnswer p a u l n) e f .0)
-
--- where the last element is past round 0, and s is the index of the first element of round 1
-module _ (p a u l n s : ℕ) (t : Takes p a u) (lu : l ≤ u) (pn : 0 < n) (pl : p ≤ u + (n - 1) * a) (e : s ≡ round p a u 1) where
-  pub foot-sum : (u + s * a ≡ p + foot p a u) × (foot p a u < a)
-  foot-sum =
-      let pos : 0 < a = moves p a u n (t .start) pl in
-      let g : s * a ≡ round p a u 1 * a = ap (λ (y : ℕ). y * a) e in
-      (omega (arith, foot-low p a u t pos), foot-high p a u t pos)
-
-  is-foot : u + s * a - p ≡ foot p a u
-  is-foot = omega (arith, foot-sum)
-
-  pub answer-first : u + s * a - p < l → Answer p a u l n (At s)
-  unfolding rounds
-  answer-first h =
-      let pos : 0 < a = moves p a u n (t .start) pl in
-      let one : 1 ≤ (u + (n - 1) * a) / p = le-div-iff-mul-le {k = p} {x = 1} {y = u + (n - 1) * a} (omega arith) .1 (omega arith) in
-      raised-at p a u l t pos lu n pn 0 s (At 0) (answer-here a (a - p % a) (foot p a u) l (rounds p a u n) (omega (arith, foot-sum)) (omega (arith, is-foot)) one) refl e
-
-  -- the answer on the smaller modulus, of the first elements as they are or mirrored
-  pub lower-up : (x : Found) → Answer a (a - p % a) (u + s * a - p) l ((u + (n - 1) * a) / p) x → RoundsAnswer p a u l n x
-  unfolding rounds
-  lower-up x h = subst (λ (y : ℕ). Answer a (a - p % a) y l (rounds p a u n) x) is-foot h
-
-  pub lower-mirrored : (x : Found) → 0 < l → l ≤ u + s * a - p → Answer a (p % a) (a - (u + s * a - p) + l - 1) l ((u + (n - 1) * a) / p) x → RoundsAnswer p a u l n x
-  lower-mirrored x pos lf h =
-      lower-up x
-      (mirror a (p % a) (u + s * a - p) l (omega (arith, mod-lt p {m = a} (omega (arith, foot-sum)))) (omega (arith, foot-sum)) pos lf ((u + (n - 1) * a) / p) x h)

@@ -1,20 +1,22 @@
 -- The rounds of an arithmetic progression: element i is in round k where k * p ≤ u + i * a < (k + 1) * p: definitions. Assumes nothing.
-use Prim.Native.Nat.{ℕ, _+_, _-_, _*_, _/_, _%_}
-use Rattle.next.specs.Hit.{Answer}
-use Rattle.next.specs.declared.Found.{Found}
+use Prim.Native.Nat.{ℕ, _+_, _*_, _<_, _≤_}
 
--- the index of the first element of round k: the least i with k * p ≤ u + i * a
-unfoldable pub round : ℕ → ℕ → ℕ → ℕ → ℕ
-round p a u k = (k * p - u + (a - 1)) / a
+-- element i lies in round k, and is a hit there
+pub record HitIn (p a u l k i : ℕ) : Type 0 where
+  pub low : k * p ≤ u + i * a
+  pub high : u + i * a < k * p + l
 
--- the first element of round 1, modulo p
-unfoldable pub foot : ℕ → ℕ → ℕ → ℕ
-foot p a u = u + round p a u 1 * a - p
+-- the search's answer: the index and the round of a hit, or round 0. A hit that is asked for, at an i with i * w < b, does not come before it
+pub record Least (p a u l w b index round : ℕ) : Type 0 where
+  pub hit : 0 < round → HitIn p a u l round index
+  pub near : 0 < round → index < p
+  pub least : (i k : ℕ) → i * w < b → HitIn p a u l k i → (0 < round) × (index ≤ i)
 
--- the round that the last of n elements is in
-unfoldable pub rounds : ℕ → ℕ → ℕ → ℕ → ℕ
-rounds p a u n = (u + (n - 1) * a) / p
-
--- the answer among the first elements of rounds 1, 2, .. of n elements: modulo a they step by a - p % a
-abbrev pub RoundsAnswer : ℕ → ℕ → ℕ → ℕ → ℕ → Found → Type 0
-RoundsAnswer p a u l n x = Answer a (a - p % a) (foot p a u) l (rounds p a u n) x
+-- what the search takes: the first element is no hit, and the modulus stays small with the weight w
+pub record Searched (p a u l w : ℕ) : Type 0 where
+  pub small : w * p ≤ 4000000000
+  pub weight : 0 < w
+  pub step : a < p
+  pub start : u < p
+  pub some : 0 < l
+  pub above : l ≤ u

@@ -1,10 +1,9 @@
 // The next hit of Xu: the first element of an arithmetic progression that lies below l, taken by the
 // modulus p, in as many calls as Euclid's algorithm has steps. Round k has the elements from k * p to
 // (k + 1) * p, before the modulus is taken.
-ghost use mathlib.Core.Path.{_≡_};
-ghost use Prim.Native.Nat.{_<_, _≤_};
+ghost use Prim.Native.Nat.{_≤_};
 ghost use Rattle.next.specs.Hit.{Answer, Takes};
-ghost use Rattle.next.specs.Rounds.{round, RoundsAnswer};
+ghost use Rattle.next.specs.Rounds.{Searched, Least};
 
 // The index of the least hit, or that there is none.
 pub enum Found {
@@ -12,32 +11,56 @@ pub enum Found {
     Nothing,
 }
 
-// The index of the first element of round k.
-fn first_of(p: u64, a: u64, u: u64, k: u64) -> u64
-    requires { ⌜ Takes p a u ⌝ }
-    requires { ⌜ 0 < a ⌝ }
-    requires { ⌜ 0 < k ⌝ }
-    requires { ⌜ k ≤ 4000000000 ⌝ }
-    ensures { λ r. ⌜ r ≡ round p a u k ⌝ }
-{
-    (k * p - u + (a - 1)) / a
+// The index of a hit and the round that it lies in. Round 0 says that there is none.
+struct Spot {
+    index: u64,
+    round: u64,
 }
 
-// The answer among the first n elements, from that among the first elements of their rounds. Where
-// a round has a hit, its first element is one, as it is the least. Only the contract needs l and n.
-fn raise(p: u64, a: u64, u: u64, l: u64, n: u64, found: Found) -> Found
-    requires { ⌜ Takes p a u ⌝ }
-    requires { ⌜ 0 < a ⌝ }
-    requires { ⌜ l ≤ u ⌝ }
-    requires { ⌜ 0 < n ⌝ }
-    requires { ⌜ n ≤ 4000000000 ⌝ }
-    requires { ⌜ RoundsAnswer p a u l n found ⌝ }
-    ensures { λ r. ⌜ Answer p a u l n r ⌝ }
+// The least hit, where the first element is none, so that round 0 has none. Where a round has a hit,
+// its first element is one. Modulo a, the first elements from round 1 on are a progression with the
+// difference a - r. As y is below l where l - 1 - y is, its mirror with the difference r has the same
+// hits. The lesser difference is taken, so that the modulus at least halves from the next call on.
+// Only a hit at an index i with i * w < b is asked for. An element here stands for at least w elements
+// of the first call, so that this cuts the search to that call's n elements without a division.
+fn search(p: u64, a: u64, u: u64, l: u64, w: u64, b: u64) -> Spot
+    requires { ⌜ Searched p a u l w ⌝ }
+    ensures { λ h. ⌜ Least p a u l w b (h .index) (h .round) ⌝ }
 {
-    match found {
-        Found::At(d) => Found::At(first_of(p, a, u, d + 1)),
-        Found::Nothing => Found::Nothing,
+    if a == 0 {
+        return Spot { index: 0, round: 0 };
     }
+    // First, as the next call waits for them: one division gives both.
+    let q = p / a;
+    let r = p % a;
+    // Round 1 starts at the index s, with f. Before it the elements rise from u.
+    let s = (p - u + (a - 1)) / a;
+    let x = s * w;
+    if b <= x {
+        return Spot { index: 0, round: 0 };
+    }
+    let f = u + s * a - p;
+    if f < l {
+        return Spot { index: s, round: 1 };
+    }
+    if r <= a - r {
+        let h = search(a, r, a - f + l - 1, l, w * q, b - x);
+        if 0 < h.round {
+            return Spot {
+                index: s + h.index * q + h.round - 1,
+                round: h.index + 1,
+            };
+        }
+    } else {
+        let h = search(a, a - r, f, l, w * q, b - x);
+        if 0 < h.round {
+            return Spot {
+                index: s + h.index * (q + 1) - h.round,
+                round: h.index + 1,
+            };
+        }
+    }
+    Spot { index: 0, round: 0 }
 }
 
 // The least i below n for which u + i * a, modulo p, lies below l.
@@ -55,25 +78,13 @@ pub fn next_hit(p: u64, a: u64, u: u64, l: u64, n: u64) -> Found
     if u < l {
         return Found::At(0);
     }
-    // Where no further round starts, the elements only rise from u, which is not below l.
-    let last = u + (n - 1) * a;
-    if last < p {
+    let h = search(p, a, u, l, 1, n);
+    if h.round == 0 {
         return Found::Nothing;
     }
-    // Round 1's first element and its index, from one division.
-    let s = first_of(p, a, u, 1);
-    let f = u + s * a - p;
-    if f < l {
-        return Found::At(s);
-    }
-    // Modulo a, the first elements of the k rounds are a progression with the difference a - r. As x
-    // is below l where l - 1 - x is, its mirror with the difference r has the same hits. The lesser
-    // difference is taken, so that the modulus at least halves from the next call on.
-    let k = last / p;
-    let r = p % a;
-    if r <= a - r {
-        raise(p, a, u, l, n, next_hit(a, r, a - f + l - 1, l, k))
+    if h.index < n {
+        Found::At(h.index)
     } else {
-        raise(p, a, u, l, n, next_hit(a, a - r, f, l, k))
+        Found::Nothing
     }
 }

@@ -1,36 +1,56 @@
 -- The laws of a merge of two rising rows: what a turn does to the union that is left.
 --     Merging, merge-start    a merge under way
---     union-lt, union-gt, union-eq    the union that is left, by the next cells of the two rows
---     merge-on        a turn stores the next cell of the union
+--     Turn, union-next    what a turn stores is the next cell of the union that is left
+--     merge-on        so a turn leads to the next
 --     merge-end       where one row is walked to its end, what is left of both is stored
 -- Assumes nothing.
-use Prim.Native.Nat.{ℕ, _+_, _<_, _≤_}
+use Prim.Native.Nat.{ℕ, _+_, _-_, _<_, _≤_, min}
 use mathlib.Core.Path.{_≡_, refl, sym, ap, _∙_}
 use mathlib.Core.Logic.{_⊎_, ⊎-elim}
 use mathlib.Core.List.{List, [], _∷_, _++_, append-nil, append-assoc}
 use native.Mathlib.Omega.{arith}
+use native.Mathlib.Nat.{add-zero}
 use lib.ListN.{length, drop, getD, set, length-set, drop-of-length-le}
 use lib.Seq.{append-snoc}
 use borrow.Author.Tests.{lt-ltb, le-ltb}
 use Rattle.rule.specs.Rows.{union}
+use Rattle.rule.proofs.Passing.{by-order}
 use Rattle.rule.proofs.Steps.{next}
 use Rattle.rows.specs.Walked.{Stored}
 use Rattle.rows.proofs.Stores.{stored-none, stored-more, stored-then}
 
-module _ (a b : List ℕ) (i j : ℕ) (h : i < length a) (k : j < length b) where
-  pub union-lt : getD a i 0 < getD b j 0 → union (drop i a) (drop j b) ≡ getD a i 0 ∷ union (drop (i + 1) a) (drop j b)
-  unfolding union
-  union-lt l = rw (next a i h, next b j k, lt-ltb _ _ l)
+-- what a turn makes of the next cells x and y of the two rows: the lesser of them, and by how much each row moves on
+pub record Turn (x y m s t : ℕ) : Type 0 where
+  pub stores : m ≡ min x y
+  pub moves-a : s ≡ min 1 (y + 1 - x)
+  pub moves-b : t ≡ min 1 (x + 1 - y)
 
-  pub union-gt : getD b j 0 < getD a i 0 → union (drop i a) (drop j b) ≡ getD b j 0 ∷ union (drop i a) (drop (j + 1) b)
-  unfolding union
-  union-gt l =
-      let g : getD b j 0 ≤ getD a i 0 = omega arith in
-      rw (next a i h, next b j k, le-ltb _ _ g, lt-ltb _ _ l)
-
-  pub union-eq : getD b j 0 ≤ getD a i 0 → getD a i 0 ≤ getD b j 0 → union (drop i a) (drop j b) ≡ getD a i 0 ∷ union (drop (i + 1) a) (drop (j + 1) b)
-  unfolding union
-  union-eq g l = rw (next a i h, next b j k, le-ltb _ _ g, le-ltb _ _ l)
+union-next : (a b : List ℕ) (i j : ℕ) → i < length a → j < length b → {m s t : ℕ} → Turn (getD a i 0) (getD b j 0) m s t
+    → union (drop i a) (drop j b) ≡ m ∷ union (drop (i + s) a) (drop (j + t) b)
+unfolding union
+union-next a b i j h k {m} {s} {t} g =
+    let x = getD a i 0 in
+    let y = getD b j 0 in
+    ⊎-elim
+    (λ (l : x < y).
+    let em : m ≡ x = omega arith in
+    let es : s ≡ 1 = omega arith in
+    let et : t ≡ 0 = omega arith in
+    rw (em, es, et, add-zero, next a i h, next b j k, lt-ltb _ _ l))
+    (λ (f : y ≤ x).
+    ⊎-elim
+    (λ (l : y < x).
+    let em : m ≡ y = omega arith in
+    let es : s ≡ 0 = omega arith in
+    let et : t ≡ 1 = omega arith in
+    rw (em, es, et, add-zero, next a i h, next b j k, le-ltb _ _ f, lt-ltb _ _ l))
+    (λ (l : x ≤ y).
+    let em : m ≡ x = omega arith in
+    let es : s ≡ 1 = omega arith in
+    let et : t ≡ 1 = omega arith in
+    rw (em, es, et, next a i h, next b j k, le-ltb _ _ f, le-ltb _ _ l))
+    (by-order y x))
+    (by-order x y)
 
 union-none : (xs ys : List ℕ) → ys ≡ [] → union xs ys ≡ xs ++ ys
 unfolding union
@@ -57,17 +77,17 @@ pub merge-start : (row a b : List ℕ) → Merging row a b row 0 0 0
 merge-start row a b =
     record { in-a = omega arith; in-b = omega arith; few = omega arith; long = refl; done = []; stored = stored-none row 0; left = refl }
 
-pub merge-on : {row a b out : List ℕ} {next i j : ℕ} → Merging row a b out next i j → (x i′ j′ : ℕ) → next < length row → i′ ≤ length a → j′ ≤ length b → i + j < i′ + j′
-    → union (drop i a) (drop j b) ≡ x ∷ union (drop i′ a) (drop j′ b) → Merging row a b (set out next x) (next + 1) i′ j′
-merge-on {row} {a} {b} {out} {next} {i} {j} g x i′ j′ room hi hj more e =
+pub merge-on : {row a b out : List ℕ} {next i j : ℕ} → Merging row a b out next i j → i < length a → j < length b → length a + length b ≤ length row
+    → {m s t : ℕ} → Turn (getD a i 0) (getD b j 0) m s t → Merging row a b (set out next m) (next + 1) (i + s) (j + t)
+merge-on {row} {a} {b} {out} {next} {i} {j} g h k room {m} {s} {t} w =
     record {
-      in-a = hi;
-      in-b = hj;
+      in-a = omega arith;
+      in-b = omega arith;
       few = omega (arith, g .few);
-      long = length-set out next x ∙ g .long;
-      done = g .done ++ (x ∷ []);
-      stored = stored-more (g .stored) x room;
-      left = append-snoc (g .done) x _ ∙ (rw e at (g .left));
+      long = length-set out next m ∙ g .long;
+      done = g .done ++ (m ∷ []);
+      stored = stored-more (g .stored) m (omega (arith, g .few));
+      left = append-snoc (g .done) m _ ∙ (rw (union-next a b i j h k w) at (g .left));
     }
 
 pub merge-end : {row a b out : List ℕ} {next i j : ℕ} → Merging row a b out next i j → (length a ≤ i) ⊎ (length b ≤ j)

@@ -1,57 +1,84 @@
--- The turns and the end of the walks over a row that test it, and a test of the hash that says which cells pass.
---     rises-on, rises-off, rises-end      the walk of `rises`
---     zeros-on, zeros-off, zeros-end      the walk of `zeros`
+-- The turns and the end of the walks over a row that test it, a test of the hash that says which cells pass, and a search by halving.
+--     same-settings, hasher-ready     the hasher of a walk
 --     passes-test, passes-on, passes-off      a test of the hash
+--     test-on, test-end       the walks of `in_order`, `all_pass` and `zeros`
+--     all-pass-zero      at level 0 every cell passes
+--     Parted, parted-start, parted-up, parted-down, parted-end      the search of `below`
 -- Assumes nothing.
-use Prim.Native.Nat.{ℕ, _+_, _<_, _≤_}
-use mathlib.Core.Path.{_≡_, sym, ap, _∙_}
-use mathlib.Core.Bool.{Bool, true, false, not, _&&_}
-use mathlib.Core.List.{List}
-use lib.Dec.{leb, ltb}
+use Prim.Native.Nat.{ℕ, zero, suc, _+_, _<_, _≤_}
+use mathlib.Core.Path.{_≡_, refl, sym, ap, _∙_}
+use mathlib.Core.Bool.{Bool, true, false, _&&_, and-assoc, and-true}
+use mathlib.Core.List.{List, [], _∷_}
+use native.Mathlib.Omega.{arith}
+use lib.Dec.{ltb}
 use lib.ListN.{length, drop, getD, drop-of-length-le}
-use borrow.Author.Tests.{eq-eqb, ne-eqb, lt-ltb, le-ltb, not-true, not-false}
+use borrow.Author.Tests.{lt-ltb, le-ltb}
 use Rattle.rule.specs.declared.Settings.{Settings}
-use Rattle.rule.specs.Rule.{hash, region, passes}
-use Rattle.rule.specs.Rows.{allZero}
+use Rattle.rule.specs.declared.Hasher.{Hasher}
+use Rattle.rule.specs.Cells.{filter}
+use Rattle.rule.specs.Rule.{Good, hash, Ready, hasherOf, region, passes}
+use Rattle.rule.proofs.Facts.{ready}
+use Rattle.rule.proofs.Passing.{passes-zero}
 use Rattle.rule.proofs.Steps.{next}
-use Rattle.rows.specs.Walked.{risesFrom}
+use Rattle.rows.specs.Walked.{cellsBelow, Ascending, allIn}
 
-module _ (s : Settings) (level x h size : ℕ) (eh : h ≡ hash s x) (es : size ≡ region s level) where
-  pub passes-test : ltb h size ≡ passes s level x
-  unfolding passes
-  passes-test = rw (eh, es)
+-- a walk with the hasher of the settings
+module _ {s : Settings} {hasher : Hasher} (made : hasher ≡ hasherOf s) where
+  pub same-settings : hasher .settings ≡ s
+  same-settings = ap (λ h. h .settings) made
 
-  pub passes-on : h < size → passes s level x ≡ true
-  passes-on l = sym passes-test ∙ lt-ltb h size l
+  pub hasher-ready : Good s → Ready hasher
+  hasher-ready g = rw made (ready s g)
 
-  pub passes-off : size ≤ h → passes s level x ≡ false
-  passes-off l = sym passes-test ∙ le-ltb h size l
+  module _ (level x : ℕ) {size h : ℕ} (es : size ≡ region s level) (eh : h ≡ hash (hasher .settings) x) where
+    pub passes-test : ltb h size ≡ passes (hasher .settings) level x
+    unfolding passes
+    passes-test = rw (eh, es, same-settings)
 
--- the test of a turn of `rises`, of the cell before it, the cell, and whether that passes
-abbrev fine : Settings → ℕ → ℕ → Bool → Bool
-fine s low x p = ltb low x && (leb x (s .n) && p)
+    pub passes-on : h < size → passes (hasher .settings) level x ≡ true
+    passes-on l = sym passes-test ∙ lt-ltb h size l
 
-module _ (s : Settings) (level low : ℕ) (l : List ℕ) (i : ℕ) (w : Bool) (e : risesFrom s level low (drop i l) ≡ w) where
-  module _ (h : i < length l) (p : Bool) (q : p ≡ passes s level (getD l i 0)) where
-    pub rises-on : not (fine s low (getD l i 0) p) ≡ false → risesFrom s level (getD l i 0) (drop (i + 1) l) ≡ w
-    rises-on t =
-        let f : fine s low (getD l i 0) (passes s level (getD l i 0)) ≡ true = ap (fine s low (getD l i 0)) (sym q) ∙ not-false (fine s low (getD l i 0) p) t in
-        rw f at (rw (next l i h) at e)
+    pub passes-off : size ≤ h → passes (hasher .settings) level x ≡ false
+    passes-off l = sym passes-test ∙ le-ltb h size l
 
-    pub rises-off : not (fine s low (getD l i 0) p) ≡ true → false ≡ w
-    rises-off t =
-        let f : fine s low (getD l i 0) (passes s level (getD l i 0)) ≡ false = ap (fine s low (getD l i 0)) (sym q) ∙ not-true (fine s low (getD l i 0) p) t in
-        rw f at (rw (next l i h) at e)
+-- A walk that tests every cell: t is the test so far, f what is to hold of the cells from i on, and g of those after cell i.
+module _ (l : List ℕ) (i : ℕ) (t r : Bool) (f : List ℕ → Bool) (e : (t && f (drop i l)) ≡ r) where
+  pub test-on : i < length l → (u : Bool) (g : List ℕ → Bool) → f (getD l i 0 ∷ drop (i + 1) l) ≡ (u && g (drop (i + 1) l)) → ((t && u) && g (drop (i + 1) l)) ≡ r
+  test-on h u g q = and-assoc t u (g (drop (i + 1) l)) ∙ ap (λ v. t && v) (sym (ap f (next l i h) ∙ q)) ∙ e
 
-  pub rises-end : length l ≤ i → true ≡ w
-  rises-end h = rw (drop-of-length-le l {i = i} h) at e
+  pub test-end : length l ≤ i → f [] ≡ true → t ≡ r
+  test-end h q = sym (and-true t) ∙ ap (λ v. t && v) (sym (ap f (drop-of-length-le l {i = i} h) ∙ q)) ∙ e
 
-module _ (l : List ℕ) (i : ℕ) (w : Bool) (e : allZero (drop i l) ≡ w) where
-  pub zeros-on : i < length l → getD l i 0 ≡ 0 → allZero (drop (i + 1) l) ≡ w
-  zeros-on h t = rw (eq-eqb _ _ t) at (rw (next l i h) at e)
+-- at level 0 every cell passes
+pub all-pass-zero : (s : Settings) → 0 < s .p → (xs : List ℕ) → allIn (passes s 0) xs ≡ true
+all-pass-zero s h [] = refl
+all-pass-zero s h (x ∷ xs) = rw (passes-zero s x h) (all-pass-zero s h xs)
 
-  pub zeros-off : i < length l → (getD l i 0 ≡ 0 → ⊥) → false ≡ w
-  zeros-off h t = rw (ne-eqb _ _ t) at (rw (next l i h) at e)
+-- the cells before lo are below x, and those from hi on are not
+pub record Parted (row : List ℕ) (x lo hi : ℕ) : Type 0 where
+  pub order : lo ≤ hi
+  pub within : hi ≤ length row
+  pub front : (k : ℕ) → k < lo → getD row k 0 < x
+  pub back : (k : ℕ) → hi ≤ k → k < length row → x ≤ getD row k 0
 
-  pub zeros-end : length l ≤ i → true ≡ w
-  zeros-end h = rw (drop-of-length-le l {i = i} h) at e
+pub parted-start : (row : List ℕ) (x : ℕ) → Parted row x 0 (length row)
+parted-start row x = record { order = omega arith; within = omega arith; front = λ k h. absurd (omega arith); back = λ k h g. absurd (omega arith) }
+
+module _ {row : List ℕ} {x lo hi : ℕ} (up : Ascending row) (g : Parted row x lo hi) (m : ℕ) (h : lo ≤ m) (w : m < hi) where
+  pub parted-up : getD row m 0 < x → Parted row x (m + 1) hi
+  parted-up t =
+      record { order = omega arith; within = g .within; front = λ k l. omega (arith, up k m (omega arith) (omega (arith, g .within))); back = g .back }
+
+  pub parted-down : x ≤ getD row m 0 → Parted row x lo m
+  parted-down t =
+      record { order = h; within = omega (arith, g .within); front = g .front; back = λ k l r. omega (arith, up m k l r) }
+
+-- where the two meet, they are as many as the cells below x
+pub parted-end : (row : List ℕ) (x n : ℕ) → Parted row x n n → n ≡ length (filter (cellsBelow x) row)
+parted-end [] x n g = omega (arith, g .within)
+parted-end (y ∷ ys) x zero g =
+    let rest : Parted ys x zero zero = record { order = omega arith; within = omega arith; front = λ k h. absurd (omega arith); back = λ k h w. g .back (suc k) (omega arith) (omega arith) } in
+    rw (le-ltb y x (g .back zero (omega arith) (omega arith))) (parted-end ys x zero rest)
+parted-end (y ∷ ys) x (suc n) g =
+    let rest : Parted ys x n n = record { order = omega arith; within = omega (arith, g .within); front = λ k h. g .front (suc k) (omega arith); back = λ k h w. g .back (suc k) (omega arith) (omega arith) } in
+    rw (lt-ltb y x (g .front zero (omega arith))) (ap suc (parted-end ys x n rest))

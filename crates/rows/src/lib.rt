@@ -1,78 +1,110 @@
 // Walks over rows of cells: one loop each.
 ghost use mathlib.Core.Path.{_≡_};
-ghost use Prim.Native.Nat.{ℕ, _+_, _<_, _≤_};
+ghost use mathlib.Core.Bool.{true};
+ghost use Prim.Native.Nat.{ℕ, _+_, _-_, _≤_, min};
 ghost use lib.ListN.{length};
 ghost use Rattle.rule.specs.Cells.{filter, range};
-ghost use Rattle.rule.specs.Rule.{passes};
+ghost use Rattle.rule.specs.Rule.{Good, passes};
 ghost use Rattle.rule.specs.Rows.{allZero, union};
 ghost use Rattle.rule.specs.Samples.{rangeCount};
 ghost use Rattle.find.specs.Finding.{Within};
-ghost use Rattle.rows.specs.Walked.{cellsBelow, risesFrom, Stored};
+ghost use Rattle.rows.specs.Walked.{cellsBelow, Ascending, allIn, inOrder, risesFrom, Stored};
+use find::Hit;
+use find::Strides;
 use rule::Settings;
 use rule::answers::Found;
 
 // The cells of the row rise strictly from above 0, and each is at most n and passes at the level.
+// At level 0 every cell passes, and no hash is asked for.
 pub fn rises(settings: Settings, level: u32, row: &[u32]) -> bool
-    requires { ⌜ 0 < settings .p ⌝ }
+    requires { ⌜ Good settings ⌝ }
     ensures { λ r. ⌜ r ≡ risesFrom settings level 0 (now (row .entry)) ⌝ }
 {
-    let n = settings.n;
-    let size = settings.region(level);
+    let ordered = in_order(settings.n, row);
+    if level == 0 {
+        return ordered;
+    }
+    ordered & all_pass(settings, level, row)
+}
+
+// The three tests below leave no loop early, so that each turn is alike and the loop runs on vectors.
+
+// The cells of the row rise strictly from above 0, and each is at most n.
+fn in_order(n: u32, row: &[u32]) -> bool
+    ensures { λ r. ⌜ r ≡ inOrder n 0 (now (row .entry)) ⌝ }
+{
+    let mut all = true;
     let mut low: u32 = 0;
     let mut i: usize = 0;
     while i < row.len() {
         let x = row[i];
-        let fine = (low < x) & ((x <= n) & (settings.hash(x) < size));
-        if !fine {
-            return false;
-        }
+        all = all & ((low < x) & (x <= n));
         low = x;
         i = i + 1;
     }
-    true
+    all
+}
+
+// Every cell of the row passes at the level.
+fn all_pass(settings: Settings, level: u32, row: &[u32]) -> bool
+    requires { ⌜ Good settings ⌝ }
+    ensures { λ r. ⌜ r ≡ allIn (passes settings level) (now (row .entry)) ⌝ }
+{
+    let size = settings.region(level);
+    let hasher = settings.hasher();
+    let mut all = true;
+    let mut i: usize = 0;
+    while i < row.len() {
+        all = all & (hasher.hash(row[i]) < size);
+        i = i + 1;
+    }
+    all
 }
 
 pub fn zeros(row: &[u32]) -> bool
     ensures { λ r. ⌜ r ≡ allZero (now (row .entry)) ⌝ }
 {
+    let mut all = true;
     let mut i: usize = 0;
     while i < row.len() {
-        if row[i] != 0 {
-            return false;
-        }
+        all = all & (row[i] == 0);
         i = i + 1;
     }
-    true
+    all
 }
 
-// How many cells of the row are below x.
+// How many cells of a rising row are below x, by halving: the cells before `lo` are below x, those
+// from `hi` on are not.
 pub fn below(row: &[u32], x: u32) -> usize
+    requires { ⌜ Ascending (now row) ⌝ }
     ensures { λ r. ⌜ r ≡ length (filter (cellsBelow x) (now (row .entry))) ⌝ }
 {
-    let mut many: usize = 0;
-    let mut i: usize = 0;
-    while i < row.len() {
-        let y = row[i];
-        i = i + 1;
-        if y < x {
-            many = many + 1;
+    let mut lo: usize = 0;
+    let mut hi = row.len();
+    while lo < hi {
+        let m = (lo + hi) / 2;
+        if row[m] < x {
+            lo = m + 1;
+        } else {
+            hi = m;
         }
     }
-    many
+    lo
 }
 
 // How many cells of the row pass at the level.
 pub fn count_passing(settings: Settings, level: u32, row: &[u32]) -> usize
-    requires { ⌜ 0 < settings .p ⌝ }
+    requires { ⌜ Good settings ⌝ }
     ensures { λ r. ⌜ r ≡ length (filter (passes settings level) (now (row .entry))) ⌝ }
 {
     let size = settings.region(level);
+    let hasher = settings.hasher();
     let mut many: usize = 0;
     let mut i: usize = 0;
     while i < row.len() {
         let x = row[i];
         i = i + 1;
-        if settings.hash(x) < size {
+        if hasher.hash(x) < size {
             many = many + 1;
         }
     }
@@ -100,16 +132,17 @@ pub fn store_passing(
     level: u32,
     row: &[u32],
 ) -> usize
-    requires { ⌜ (0 < settings .p) × (at + length (filter (passes settings level) (now row)) ≤ length (now out)) ⌝ }
+    requires { ⌜ Good settings × (at + length (filter (passes settings level) (now row)) ≤ length (now out)) ⌝ }
     ensures { λ r. ⌜ Stored (now (out .entry)) at (filter (passes settings level) (now (row .entry))) r (now (out .exit)) ⌝ }
 {
     let size = settings.region(level);
+    let hasher = settings.hasher();
     let mut next = at;
     let mut i: usize = 0;
     while i < row.len() {
         let x = row[i];
         i = i + 1;
-        if settings.hash(x) < size {
+        if hasher.hash(x) < size {
             out[next] = x;
             next = next + 1;
         }
@@ -117,7 +150,35 @@ pub fn store_passing(
     next
 }
 
-// The same for the cells of lo..hi that pass at the level, by next hits and not cell by cell.
+// The same for the cells of first..hi that pass at the level, of which `first` is one: from each hit
+// by its distance to the next, with no search.
+fn store_along(
+    out: &mut [u32],
+    at: usize,
+    settings: Settings,
+    level: u32,
+    first: u32,
+    hi: u32,
+) -> usize
+    requires { ⌜ Within settings first hi × (first ≤ hi) × (passes settings level first ≡ true) × (at + rangeCount settings level first hi ≤ length (now out)) ⌝ }
+    ensures { λ r. ⌜ Stored (now (out .entry)) at (filter (passes settings level) (range first hi)) r (now (out .exit)) ⌝ }
+{
+    let far = hi - first;
+    let strides = Strides::of(settings, level, far);
+    let mut hit = Hit {
+        cell: first,
+        hash: settings.hash(first),
+    };
+    let mut next = at;
+    while hit.cell <= hi {
+        out[next] = hit.cell;
+        next = next + 1;
+        hit = strides.next(settings, level, far, hit);
+    }
+    next
+}
+
+// The same for the cells of lo..hi that pass at the level; the caller has counted them.
 pub fn store_hits(
     out: &mut [u32],
     at: usize,
@@ -125,28 +186,39 @@ pub fn store_hits(
     level: u32,
     lo: u32,
     hi: u32,
+    many: usize,
 ) -> usize
-    requires { ⌜ Within settings lo hi × (at + rangeCount settings level lo hi ≤ length (now out)) ⌝ }
+    requires { ⌜ Within settings lo hi × (many ≡ rangeCount settings level lo hi) × (at + many ≤ length (now out)) ⌝ }
     ensures { λ r. ⌜ Stored (now (out .entry)) at (filter (passes settings level) (range lo hi)) r (now (out .exit)) ⌝ }
 {
-    let mut next = at;
-    let mut from = lo;
-    while from <= hi {
-        match find::first_in(settings, level, from, hi) {
-            Found::Cell(x) => {
-                out[next] = x;
-                next = next + 1;
-                from = x + 1;
-            }
-            Found::Nothing => return next,
-            // `first_in` refuses nothing.
-            Found::Refused(_) => return next,
-        }
+    if many == 0 {
+        return at;
     }
-    next
+    match find::first_in(settings, level, lo, hi) {
+        Found::Cell(x) => {
+            if many == 1 {
+                out[at] = x;
+                return at + 1;
+            }
+            store_along(out, at, settings, level, x, hi)
+        }
+        // There is a first one, and `first_in` refuses nothing.
+        Found::Nothing => at,
+        Found::Refused(_) => at,
+    }
 }
 
-// Stores the union of two rising rows in `out`, rising; answers how many cells it has.
+// 1 where x is at most y, else 0: a function of its own, so that it compiles to a test's value and
+// not to a branch.
+fn step(x: u32, y: u32) -> usize
+    ensures { λ r. ⌜ r ≡ min 1 (y + 1 - x) ⌝ }
+{
+    if x <= y { 1 } else { 0 }
+}
+
+// Stores the union of two rising rows in `out`, rising; answers how many cells it has. A turn
+// stores the lesser of the two next cells, and each row that has it there moves on: which of them
+// can't be foretold, so a turn has no branch.
 pub fn store_union(out: &mut [u32], a: &[u32], b: &[u32]) -> usize
     requires { ⌜ length (now a) + length (now b) ≤ length (now out) ⌝ }
     ensures { λ r. ⌜ Stored (now (out .entry)) 0 (union (now (a .entry)) (now (b .entry))) r (now (out .exit)) ⌝ }
@@ -157,19 +229,10 @@ pub fn store_union(out: &mut [u32], a: &[u32], b: &[u32]) -> usize
     while i < a.len() && j < b.len() {
         let x = a[i];
         let y = b[j];
-        let at = next;
+        out[next] = rule::lesser(x, y);
         next = next + 1;
-        if x < y {
-            out[at] = x;
-            i = i + 1;
-        } else if y < x {
-            out[at] = y;
-            j = j + 1;
-        } else {
-            out[at] = x;
-            i = i + 1;
-            j = j + 1;
-        }
+        i = i + step(x, y);
+        j = j + step(y, x);
     }
     let m = store(out, next, &a[i..]);
     store(out, m, &b[j..])

@@ -2,6 +2,7 @@
 --     each            every test of a list holds
 --     good-facts, facts-good     `isGood` and `Good` say the same
 --     positive, fewer, small     what the other laws use of good settings
+--     ready           the hasher of good settings finds hashes
 use Prim.Native.Nat.{_^_, _<_}
 use mathlib.Core.Path.{_≡_, refl, sym}
 use mathlib.Core.Bool.{Bool, true, false, false≢true}
@@ -9,7 +10,7 @@ use mathlib.Core.List.{List, [], _∷_}
 use native.Mathlib.Omega.{arith}
 use borrow.Author.Tests.{leb-true, ltb-true, eqb-true, le-leb, lt-ltb, eq-eqb}
 use Rattle.rule.specs.declared.Settings.{Settings}
-use Rattle.rule.specs.Rule.{Good, isGood, rules, all}
+use Rattle.rule.specs.Rule.{Good, isGood, rules, all, Ready, hasherOf}
 use Rattle.rule.proofs.Divisors.{only-one, one-only}
 
 -- what the tests of a list say together
@@ -70,3 +71,6 @@ fewer s g = omega (arith, g .n-low, g .p-low)
 
 pub small : (s : Settings) → Good s → s .p < 2 ^ 32
 small s g = omega (arith, g .n-high, g .p-high)
+
+pub ready : (s : Settings) → Good s → Ready (hasherOf s)
+ready s g = record { good = g; made = refl }

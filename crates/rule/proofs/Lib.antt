@@ -3,6 +3,7 @@ pub mod Lists
 pub mod Divisors
 pub mod Facts
 pub mod Passing
+pub mod Fractions
 pub mod Samples
 pub mod Rows
 pub mod Places

@@ -3,7 +3,8 @@
 --     region-lower    regions shrink
 --     passes-lower    what passes at a level passes at every lower level
 --     top-greatest    the top is the greatest T with 2 ^ T ≤ p
---     Halving, halving-top    halving p finds it
+--     top-of-none     it is 0 where p is
+--     top-leading     else the digits of p above its highest set one, that one, and as many as the top says make 32
 --     top-small       it is below 32
 --     level-within    so a level is no higher than the top just where its region is not empty
 --     region-top      the region at the top is 1
@@ -18,7 +19,8 @@ use mathlib.Core.Logic.{_⊎_, inl, inr, ⊎-elim}
 use Prim.Native.Nat.{ℕ, suc, _+_, _-_, _*_, _/_, _%_, _^_, _≤_, _<_, _∣_}
 use native.Mathlib.Omega.{arith}
 use native.Mathlib.Decide.{decLe}
-use native.Mathlib.Nat.{div-eq-of-lt, le-antisymm, div-lt-iff-lt-mul, pow-suc, mul-le-mul, lt-of-not-le, mod-lt, div-add-mod', div-one, mul-le-mul-left, div-mul-le-self, le-div-iff-mul-le, pow-le-pow-right, one-le-pow, mul-add-mod-self-right, mul-mod-left, mul-sub, dvd-mul-left, dvd-mul-right, eq-of-mul-eq-mul-right, div-eq-of-lt-le, mod-eq-of-lt}
+use native.Mathlib.Nat.{div-eq-of-lt, mul-le-mul, lt-of-not-le, mod-lt, div-add-mod', div-one, mul-le-mul-left, div-mul-le-self, le-div-iff-mul-le, pow-le-pow-right, one-le-pow, mul-add-mod-self-right, mul-mod-left, mul-sub, dvd-mul-left, dvd-mul-right, eq-of-mul-eq-mul-right, div-eq-of-lt-le, mod-eq-of-lt}
+use lib.Count.{leadingZeros, leading-top}
 use lib.Dec.{leb, eqb}
 use lib.Pow.{pow-mono, pow-pos}
 use borrow.Author.Tests.{ltb-true, lt-ltb, le-leb, leb-true, leb-false, eqb-true, eqb-false, eq-eqb}
@@ -28,7 +30,7 @@ use Rattle.rule.specs.Rule.{Good, hash, region, passes, top}
 use Rattle.rule.proofs.Lists.{tested, least-has, least-least, greatest-has, greatest-above, greatest-found}
 use Rattle.rule.proofs.Facts.{positive, fewer, small, same-test}
 
-by-order : (i j : ℕ) → (i < j) ⊎ (j ≤ i)
+pub by-order : (i j : ℕ) → (i < j) ⊎ (j ≤ i)
 by-order i j = elim (decLe j i) [ yes h ↦ inr h | no f ↦ inl (lt-of-not-le f) ]
 
 pub passes-zero : (s : Settings) (x : ℕ) → 0 < s .p → passes s 0 x ≡ true
@@ -69,13 +71,7 @@ top-greatest s pos small = (leb-true (2 ^ t) (s .p) (greatest-has q 32 (le-leb 1
         (λ (e : leb (2 ^ suc t) (s .p) ≡ false). leb-false (2 ^ suc t) (s .p) e)
         (tested (leb (2 ^ suc t) (s .p)))
 
--- p, halved t times, is q
-pub record Halving (p t q : ℕ) : Type 0 where
-  pub halved : q ≡ p / 2 ^ t
-  pub steps : t + q ≤ p
-  pub left : 0 < p → 0 < q
-
-top-of-none : (s : Settings) → s .p ≡ 0 → top s ≡ 0
+pub top-of-none : (s : Settings) → s .p ≡ 0 → top s ≡ 0
 unfolding top
 top-of-none s z =
     ⊎-elim
@@ -83,23 +79,17 @@ top-of-none s z =
     (λ h. absurd (omega (arith, leb-true (2 ^ top s) (s .p) h, pow-pos (top s))))
     (greatest-found (λ t. leb (2 ^ t) (s .p)) 32)
 
--- halved until at most 1 is left, p has been halved as often as the top says
-pub halving-top : (s : Settings) (t q : ℕ) → s .p < 2 ^ 32 → Halving (s .p) t q → q ≤ 1 → t ≡ top s
-halving-top s t q low h few =
-    ⊎-elim
-    (λ (pos : 0 < s .p).
+pub top-leading : (s : Settings) → 0 < s .p → s .p < 2 ^ 32 → leadingZeros 32 (s .p) + suc (top s) ≡ 32
+top-leading s pos low =
     let g : (2 ^ top s ≤ s .p) × (s .p < 2 ^ suc (top s)) = top-greatest s pos low in
-    let one : s .p / 2 ^ t ≡ 1 = omega (arith, h .halved, h .left pos) in
-    let lo : 1 * 2 ^ t ≤ s .p = le-div-iff-mul-le {k = 2 ^ t} (pow-pos t) .0 (omega arith) in
-    let hi : s .p < 2 * 2 ^ t = div-lt-iff-lt-mul {k = 2 ^ t} (pow-pos t) .0 (omega arith) in
-    le-antisymm
-    (not-above (λ w. let m : 2 ^ suc (top s) ≤ 2 ^ t = pow-mono w in omega arith))
-    (not-above (λ w. let m : 2 ^ suc t ≤ 2 ^ top s = pow-mono w in omega (arith, pow-suc 2 t))))
-    (λ (none : s .p ≤ 0). omega (arith, top-of-none s (omega arith), h .steps))
-    (by-order 0 (s .p))
+    let w : (t : ℕ) × (leadingZeros 32 (s .p) + suc t ≡ 32) × (2 ^ t ≤ s .p) × (s .p < 2 ^ suc t) = leading-top 32 (s .p) pos low in
+    let t = w .0 in
+    let up : t ≤ top s = not-above (λ h. let m : 2 ^ suc (top s) ≤ 2 ^ t = pow-mono h in omega arith) in
+    let down : top s ≤ t = not-above (λ h. let m : 2 ^ suc t ≤ 2 ^ top s = pow-mono h in omega arith) in
+    omega arith
   where
     not-above : {i j : ℕ} → (suc j ≤ i → ⊥) → i ≤ j
-    not-above {i} {j} f = ⊎-elim (λ w. absurd (f w)) (λ w. w) (by-order j i)
+    not-above {i} {j} f = ⊎-elim (λ h. absurd (f h)) (λ h. h) (by-order j i)
 
 pub region-top : (s : Settings) → 0 < s .p → s .p < 2 ^ 32 → region s (top s) ≡ 1
 unfolding region

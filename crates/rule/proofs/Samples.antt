@@ -1,6 +1,7 @@
 -- The laws of the sample and of the lowest level.
 --     fits-top        at the top everything fits
---     lowest-from, -top, -fits, -least, -more, -up, -step     the lowest level
+--     fits-higher     what fits at a level fits at every higher one
+--     lowest-from, -top, -fits, -least, -more, -up, -step, -past, -skip     the lowest level
 --     Agree, sample-same, lowest-same     two sets that agree on what passes at a level have the same samples from there on
 -- Assumes nothing.
 use mathlib.Core.Path.{_≡_, refl, sym, ap, _∙_}
@@ -90,6 +91,21 @@ fits-few s X l e = leb-true (length (sample s X l)) (s .capacity) e
 pub fits-fewer : (s : Settings) (X Y : Cells) (l : ℕ) → Inside X Y → fits s Y l ≡ true → fits s X l ≡ true
 fits-fewer s X Y l f e = few-fits s X l (omega (arith, sample-fewer s X Y l f, fits-few s Y l e))
 
+-- what fits at a level fits at every higher one
+pub fits-higher : (s : Settings) (X : Cells) (m l : ℕ) → m ≤ l → fits s X m ≡ true → fits s X l ≡ true
+unfolding sample passing
+fits-higher s X m l h e =
+    few-fits s X l
+    (omega (
+      arith,
+      fits-few s X m e,
+      filter-fewer (passing s X l) (passing s X m) (range 1 (s .n)) (λ x i f.
+          ⊎-elim
+          (λ (p : passes s l x ≡ true). let q : passes s m x ≡ true = passes-lower s m l x h p in cc)
+          (λ (p : passes s l x ≡ false). absurd (true≢false (sym f ∙ ap (λ (t : Bool). X x && t) p ∙ and-false (X x))))
+          (tested (passes s l x))),
+    ))
+
 pub fits-same : (s : Settings) (m l : ℕ) (X Y : Cells) → m ≤ l → Agree s m X Y → fits s X l ≡ fits s Y l
 unfolding fits
 fits-same s m l X Y h f = ap (λ (c : List ℕ). leb (length c) (s .capacity)) (sample-same s m l X Y h f)
@@ -154,6 +170,18 @@ pub lowest-step : (s : Settings) → Good s → (X : Cells) (l : ℕ) → l < to
 lowest-step s g X l t e =
     let f : lowest s X l ≡ l → ⊥ = λ q. true≢false (sym (lowest-fits s g X l (omega arith)) ∙ ap (fits s X) q ∙ e) in
     sym (lowest-up s g X l (suc l) (omega arith) t (omega (arith, lowest-from s X l)))
+
+-- where X does not fit at l, the lowest level is above l, wherever the search started
+pub lowest-past : (s : Settings) → Good s → (X : Cells) (m l : ℕ) → m ≤ top s → fits s X l ≡ false → l < lowest s X m
+lowest-past s g X m l t e =
+    let f : lowest s X m ≤ l → ⊥ = λ q. true≢false (sym (fits-higher s X (lowest s X m) l q (lowest-fits s g X m t)) ∙ e) in
+    omega arith
+
+-- so a search that starts higher finds the same where it goes on at all
+pub lowest-skip : (s : Settings) → Good s → (X : Cells) (m l : ℕ) → m ≤ l → l ≤ top s → l < lowest s X l → lowest s X l ≡ lowest s X m
+lowest-skip s g X m l h t w =
+    let e : fits s X l ≡ false = ⊎-elim (λ (f : fits s X l ≡ true). absurd (omega (arith, lowest-now s X l f))) (λ f. f) (tested (fits s X l)) in
+    lowest-up s g X m l h t (omega (arith, lowest-past s g X m l (omega arith) e))
 
 -- and it never steps past the top
 pub below-top : (s : Settings) → Good s → (X : Cells) (l : ℕ) → l ≤ top s → fits s X l ≡ false → l < top s

@@ -5,6 +5,7 @@ use mathlib.Core.Bool.{Bool, true, _&&_}
 use mathlib.Core.List.{List, [], _∷_}
 use lib.Dec.{leb, ltb, eqb}
 use Rattle.rule.specs.declared.Settings.{Settings}
+use Rattle.rule.specs.declared.Hasher.{Hasher}
 use Rattle.rule.specs.Cells.{Cells, greatest}
 
 -- good settings: the five rules
@@ -53,6 +54,15 @@ isGood s = all (rules s)
 -- h(x) = (a·x + b) mod p
 unfoldable pub hash : Settings → ℕ → ℕ
 hash s x = (s .a * x + s .b) % s .p
+
+-- what `hasher` makes of settings: beside them a / p and b / p, in parts of 2^32, rounded down
+abbrev pub hasherOf : Settings → Hasher
+hasherOf s = record { settings = s; slope = s .a * 2 ^ 32 / s .p; start = s .b * 2 ^ 32 / s .p }
+
+-- a hasher as `hasher` makes it
+pub record Ready (h : Hasher) : Type 0 where
+  pub good : Good (h .settings)
+  pub made : h ≡ hasherOf (h .settings)
 
 -- the size of the region of a level: p divided by 2^level, rounded down
 unfoldable pub region : Settings → ℕ → ℕ

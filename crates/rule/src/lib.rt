@@ -1,8 +1,8 @@
 // The rule of a sketch: its settings, the hash, the regions of the levels, and which cells pass.
 ghost use mathlib.Core.Path.{_≡_};
-ghost use Prim.Native.Nat.{ℕ, _^_, _<_, _≤_};
+ghost use Prim.Native.Nat.{ℕ, _+_, _-_, _^_, _%_, _<_, _≤_, min};
 ghost use lib.Dec.{leb};
-ghost use Rattle.rule.specs.Rule.{commonDivisor, isGood, hash, region, passes, top};
+ghost use Rattle.rule.specs.Rule.{Good, commonDivisor, isGood, hash, Ready, hasherOf, region, passes, top};
 
 pub mod answers;
 
@@ -14,24 +14,65 @@ pub struct Settings {
     pub capacity: u32,
 }
 
+// The settings with a / p and b / p in parts of 2^32, rounded down: with these two at hand a hash is
+// found by products and shifts, without a division.
+pub struct Hasher {
+    pub settings: Settings,
+    pub slope: u32,
+    pub start: u32,
+}
+
 fn wide(x: u32) -> u64
     ensures { λ r. ⌜ (r ≡ x) × (x < 2 ^ 32) ⌝ }
 {
     x as u64
 }
 
-// The greatest common divisor, by Euclid's rule: each turn keeps the common divisors.
-pub fn common_divisor(a: u32, p: u32) -> u32
+// The lesser of two numbers, and how far they lie apart: functions of their own, so that they
+// compile to selections and not to branches that can't be foretold.
+pub fn lesser(x: u32, y: u32) -> u32
+    ensures { λ r. ⌜ r ≡ min x y ⌝ }
+{
+    if x < y { x } else { y }
+}
+
+fn apart(x: u32, y: u32) -> u32
+    ensures { λ r. ⌜ r ≡ (x - y) + (y - x) ⌝ }
+{
+    if x < y { y - x } else { x - y }
+}
+
+// The greatest common divisor of two odd numbers, without a division. A common divisor is odd, so
+// it divides the difference with its halvings taken out. There are as many of these as x and y
+// have equal lowest bits, so they are counted beside the subtraction, not after it.
+fn odd_divisor(a: u32, p: u32) -> u32
+    requires { ⌜ (a % 2 ≡ 1) × (p % 2 ≡ 1) ⌝ }
     ensures { λ r. ⌜ r ≡ commonDivisor a p ⌝ }
 {
     let mut x = a;
     let mut y = p;
-    while y != 0 {
-        let rest = x % y;
-        x = y;
-        y = rest;
+    while x != y {
+        let equal = u32::trailing_zeros(x ^ y);
+        let low = lesser(x, y);
+        x = apart(x, y) >> equal;
+        y = low;
     }
     x
+}
+
+// The greatest common divisor: of the odd parts, doubled as often as both numbers can be halved.
+pub fn common_divisor(a: u32, p: u32) -> u32
+    ensures { λ r. ⌜ r ≡ commonDivisor a p ⌝ }
+{
+    if a == 0 {
+        p
+    } else if p == 0 {
+        a
+    } else {
+        let i = u32::trailing_zeros(a);
+        let j = u32::trailing_zeros(p);
+        odd_divisor(a >> i, p >> j) << lesser(i, j)
+    }
 }
 
 impl Settings {
@@ -65,6 +106,21 @@ impl Settings {
         h as u32
     }
 
+    // For the hashes of many cells.
+    pub fn hasher(self) -> Hasher
+        requires { ⌜ Good self ⌝ }
+        ensures { λ r. ⌜ r ≡ hasherOf self ⌝ }
+    {
+        let p = wide(self.p);
+        let slope = wide(self.a) * 4294967296 / p;
+        let start = wide(self.b) * 4294967296 / p;
+        Hasher {
+            settings: self,
+            slope: slope as u32,
+            start: start as u32,
+        }
+    }
+
     // The size of a level's region; from level 32 on nothing is left of a p of 32 bits.
     pub fn region(self, level: u32) -> u32
         ensures { λ r. ⌜ r ≡ region self level ⌝ }
@@ -79,17 +135,15 @@ impl Settings {
         self.hash(x) < self.region(level)
     }
 
-    // The top: how often p can be halved, rounded down, before it is 1.
+    // The top: the place of the highest bit of p that is set.
     pub fn top(self) -> u32
         ensures { λ r. ⌜ r ≡ top self ⌝ }
     {
-        let mut t: u32 = 0;
-        let mut q = self.p;
-        while 1 < q {
-            q = q / 2;
-            t = t + 1;
+        let p = self.p;
+        if p == 0 {
+            return 0;
         }
-        t
+        31 - u32::leading_zeros(p)
     }
 
     // Is the level no higher than the top? Just then its region isn't empty.
@@ -98,5 +152,21 @@ impl Settings {
         ensures { λ r. ⌜ r ≡ leb level (top self) ⌝ }
     {
         1 <= self.region(level)
+    }
+}
+
+impl Hasher {
+    // The rounded fractions give the quotient, or one less, so what is left of a·x + b is below 2p.
+    // Whether p is in it is bit 33 of a sum, and not a test: a loop over cells runs on vectors then.
+    pub fn hash(self, x: u32) -> u32
+        requires { ⌜ Ready self ⌝ }
+        ensures { λ r. ⌜ r ≡ hash (self .settings) x ⌝ }
+    {
+        let cell = wide(x);
+        let p = wide(self.settings.p);
+        let q = (wide(self.slope) * cell + wide(self.start)) >> 32;
+        let left = wide(self.settings.a) * cell + wide(self.settings.b) - q * p;
+        let over = (left + (8589934592 - p)) >> 33;
+        (left - over * p) as u32
     }
 }

@@ -1,6 +1,7 @@
 -- Three lists stored one after the other in a row of zeros make a sketch's row.
---     first-room, second-room, third-room    the room for each
---     gather-count, gather-all    the number of cells, and the sketch
+--     gather-within    the range is one that hits can be found in
+--     first-room, second-room, third-room    the room for each list
+--     gather-few, gather-all    the number of cells, and the sketch
 -- Assumes nothing.
 use Prim.Native.Nat.{ℕ, _+_, _-_, _≤_}
 use mathlib.Core.Path.{_≡_, ap, _∙_}
@@ -8,50 +9,72 @@ use mathlib.Core.List.{List, _++_, append-assoc}
 use native.Mathlib.Omega.{arith}
 use lib.ListN.{length, replicate, length-append, length-replicate}
 use Rattle.rule.specs.declared.Settings.{Settings}
-use Rattle.rule.specs.Rows.{pad}
+use Rattle.rule.specs.Cells.{filter, range}
+use Rattle.rule.specs.Rows.{pad, placed}
+use Rattle.rule.specs.Rule.{passes}
+use Rattle.rule.specs.Samples.{rangeCount}
 use Rattle.rule.proofs.Places.{placed-pad, placed-length}
+use Rattle.find.specs.Finding.{Within}
 use Rattle.rows.specs.Walked.{Stored}
 use Rattle.rows.proofs.Stores.{stored-then}
-use Rattle.sketch.specs.declared.Sketch.{Sketch}
-use Rattle.sketch.specs.Sketches.{sketchAt}
+use Rattle.sketch.specs.Sketches.{held, sketchAt}
+use Rattle.sketch.specs.Settling.{between, Gathers}
 
 stored-length : (row : List ℕ) (k : ℕ) (xs : List ℕ) (next : ℕ) (after : List ℕ) → Stored row k xs next after → k + length xs ≤ length row → length after ≡ length row
 stored-length row k xs next after g h = ap length (g .contents) ∙ placed-length row k xs h
 
-three-lengths : (f m b : List ℕ) → length (f ++ (m ++ b)) ≡ length f + length m + length b
-three-lengths f m b = omega (arith, length-append f (m ++ b), length-append m b)
+module _ {s : Settings} {level : ℕ} {front back : List ℕ} {lo hi hits : ℕ} {f b out : List ℕ} (g : Gathers s level front back lo hi hits f b out) where
+  m : List ℕ
+  m = filter (passes s level) (range lo hi)
 
-pub first-room : (f m b : List ℕ) → length (f ++ (m ++ b)) ≤ 504 → 0 + length f ≤ 504
-first-room f m b few = omega (arith, three-lengths f m b)
+  sized : length out ≡ 504
+  sized = let z : length (replicate {A = ℕ} 504 0) ≡ 504 = length-replicate {A = ℕ} 504 0 in ap length (g .zeros) ∙ z
 
-module _ (f m b : List ℕ) (few : length (f ++ (m ++ b)) ≤ 504) {i : ℕ} {one : List ℕ} (first : Stored (replicate 504 0) 0 f i one) where
-  first-length : length one ≡ 504
-  first-length =
-      let z : length (replicate {A = ℕ} 504 0) ≡ 504 = length-replicate {A = ℕ} 504 0 in
-      stored-length (replicate 504 0) 0 f i one first (omega (arith, three-lengths f m b)) ∙ z
+  -- the three lengths, as the room is counted
+  three : (length f + hits + length b ≡ length (between s level f b lo hi)) × (hits ≡ length m)
+  unfolding m between rangeCount
+  three = (omega (arith, g .counted, length-append f (m ++ b), length-append m b), g .counted)
 
-  pub second-room : i + length m ≤ length one
-  second-room = omega (arith, first-length, first .next-place, three-lengths f m b)
+  pub gather-within : Within s lo hi
+  gather-within = let w = g .around in record { good = w .good; low = w .one; start = w .start; last = w .last }
 
-  module _ {j : ℕ} {two : List ℕ} (second : Stored one i m j two) where
-    second-length : length two ≡ 504
-    second-length = stored-length one i m j two second second-room ∙ first-length
+  pub first-room : 0 + length f ≤ length out
+  first-room = omega (arith, sized, three .0, g .few)
 
-    pub third-room : j + length b ≤ length two
-    third-room = omega (arith, second-length, first .next-place, second .next-place, three-lengths f m b)
+  module _ {i : ℕ} {one : List ℕ} (first : Stored out 0 f i one) where
+    first-length : length one ≡ 504
+    first-length = stored-length out 0 f i one first first-room ∙ sized
 
-    module _ {k : ℕ} {three : List ℕ} (third : Stored two j b k three) where
-      pub gather-count : k ≡ length (f ++ (m ++ b))
-      gather-count = omega (arith, first .next-place, second .next-place, third .next-place, three-lengths f m b)
+    pub second-room : i + hits ≤ length one
+    second-room = omega (arith, first-length, first .next-place, three .0, g .few)
 
-      whole : three ≡ pad 504 (f ++ (m ++ b))
-      whole =
-          stored-then (stored-then first m second (omega arith)) b third (omega arith) .contents
-          ∙ placed-pad 504 ((f ++ m) ++ b)
-          ∙ ap (pad 504) (append-assoc f m b)
+    module _ {j : ℕ} {two : List ℕ} (second : Stored one i (filter (passes s level) (range lo hi)) j two) where
+      second-place : j ≡ length f + hits
+      unfolding m
+      second-place = omega (arith, first .next-place, second .next-place, three .1)
 
-      pub gather-all : (s : Settings) (level : ℕ) → _≡_ {A = Sketch} (record { settings = s; level = level; count = k; cells = three }) (sketchAt s level (f ++ (m ++ b)))
-      unfolding sketchAt
-      gather-all s level =
-          ap (λ (n : ℕ). record { settings = s; level = level; count = n; cells = three }) gather-count
-          ∙ ap (λ (l : List ℕ). record { settings = s; level = level; count = length (f ++ (m ++ b)); cells = l }) whole
+      second-length : length two ≡ 504
+      unfolding m
+      second-length = stored-length one i m j two second (omega (arith, second-room, three .1)) ∙ first-length
+
+      pub third-room : j + length b ≤ length two
+      third-room = omega (arith, second-length, second-place, three .0, g .few)
+
+      module _ {k : ℕ} {after : List ℕ} (third : Stored two j b k after) where
+        count-is : k ≡ length (between s level f b lo hi)
+        count-is = omega (arith, second-place, third .next-place, three .0)
+
+        pub gather-few : k ≤ 504
+        gather-few = omega (arith, count-is, g .few)
+
+        whole : after ≡ pad 504 (between s level f b lo hi)
+        unfolding m between
+        whole =
+            stored-then (stored-then first m second (omega arith)) b third (omega arith) .contents
+            ∙ ap (λ (l : List ℕ). placed l 0 ((f ++ m) ++ b)) (g .zeros)
+            ∙ placed-pad 504 ((f ++ m) ++ b)
+            ∙ ap (pad 504) (append-assoc f m b)
+
+        pub gather-all : held s level k after ≡ sketchAt s level (between s level f b lo hi)
+        unfolding sketchAt
+        gather-all = ap (λ (n : ℕ). held s level n after) count-is ∙ ap (held s level (length (between s level f b lo hi))) whole

@@ -2,7 +2,8 @@
 --     sample-around    the sample of two rows around a range, part by part
 --     fits-around      so whether it fits is a sum of three counts
 --     from-now, from-next    the sketch of the set: at this level where it fits, and otherwise from the next level on
---     Raising, raise-start, raise-room, raise-on, raise-end    the search for the lowest level
+--     Raising, raise-start, raise-room, raise-on, raise-end    the search for the lowest level, upwards
+--     Lowering, lower-start, lower-on, lower-stop, lower-end    and downwards from a guess
 --     fits-over, fits-sum    the sum, as it is made
 --     fits-present, present-now    where all the rows' cells pass, no cell of them need be tested
 --     settle-now, settle-few, settle-not, settle-room, thin-few    the steps of `settled`
@@ -26,7 +27,7 @@ use Rattle.rule.specs.Rule.{Good, passes, top}
 use Rattle.rule.specs.Samples.{sample, fits, lowest, rangeCount}
 use Rattle.rule.proofs.Lists.{tested, listed-filter, rising-listed, rising-same, listed-append, rising-join, rising-filter, rising-within, filter-rises, filter-all, filter-short}
 use Rattle.rule.proofs.Rows.{listed-range, ltb-not, listed-union, rising-union, union-short}
-use Rattle.rule.proofs.Samples.{in-grid, listed-sample, sample-rises, fits-few, lowest-now, lowest-fits, lowest-step, below-top}
+use Rattle.rule.proofs.Samples.{in-grid, listed-sample, sample-rises, fits-few, lowest-from, lowest-least, lowest-now, lowest-fits, lowest-step, lowest-past, below-top}
 use Rattle.sketch.specs.declared.Sketch.{Sketch}
 use Rattle.sketch.specs.Sketches.{sketchAt, cellsOf, sketchFrom, add, merge, Sound}
 use Rattle.rule.proofs.Steps.{part-rest}
@@ -34,7 +35,7 @@ use Rattle.find.proofs.Checks.{and-parts}
 use Rattle.rows.specs.Walked.{cellsBelow}
 use Rattle.rows.proofs.Facts.{below-splits}
 use Rattle.sketch.specs.Settling.{allOf, between, Around, Present}
-use Rattle.sketch.proofs.Making.{from-same}
+use Rattle.sketch.proofs.Making.{cells-at, from-same}
 
 -- f: before; b: after; i: between; p: passes; g: in 1..n
 places : (f b i p g : Bool) → (f ≡ true → g ≡ true) → (b ≡ true → g ≡ true) → (i ≡ true → g ≡ true)
@@ -138,6 +139,28 @@ module _ (s : Settings) (good : Good s) (X : Cells) {level l : ℕ} (g : Raising
   pub raise-end : fits s X l ≡ true → l ≡ lowest s X level
   raise-end e = sym (lowest-now s X l e) ∙ g .same
 
+-- the search of `raised` from a guess: at this level it fits, and no level below the first is asked for
+pub record Lowering (s : Settings) (X : Cells) (level l : ℕ) : Type 0 where
+  pub from : level ≤ l
+  pub within : l ≤ top s
+  pub fit : fits s X l ≡ true
+
+module _ (s : Settings) (good : Good s) (X : Cells) (level : ℕ) where
+  pub lower-start : (guess found : ℕ) → level ≤ guess → guess ≤ top s → found ≡ lowest s X guess → found ≤ guess → Lowering s X level guess
+  lower-start guess found h t e w =
+      let same : lowest s X guess ≡ guess = omega (arith, lowest-from s X guess) in
+      record { from = h; within = t; fit = ap (fits s X) (sym same) ∙ lowest-fits s good X guess t }
+
+  module _ {l : ℕ} (g : Lowering s X level l) where
+    pub lower-on : level < l → fits s X (l - 1) ≡ true → Lowering s X level (l - 1)
+    lower-on h e = record { from = omega arith; within = omega (arith, g .within); fit = e }
+
+    pub lower-stop : level < l → fits s X (l - 1) ≡ false → l ≡ lowest s X level
+    lower-stop h e = omega (arith, lowest-past s good X level (l - 1) (omega (arith, g .within)) e, lowest-least s X level l (g .from) (g .fit))
+
+    pub lower-end : l ≤ level → l ≡ lowest s X level
+    lower-end h = let e : l ≡ level = omega (arith, g .from) in sym (ap (lowest s X) (sym e) ∙ lowest-now s X l (g .fit))
+
 -- the sum as `fits_at` makes it: the range alone may be too much
 pub fits-over : (s : Settings) (front back : List ℕ) (lo hi level hits : ℕ) → Around s front back lo hi → hits ≡ rangeCount s level lo hi → s .capacity < hits
     → false ≡ fits s (allOf front back lo hi) level
@@ -199,53 +222,74 @@ filtered X l x e =
     let t : (X x && listed l x) ≡ true = sym (listed-filter X l x) ∙ e in
     and-parts (X x) (listed l x) t
 
--- at its own level all of a sketch's cells pass; and at every level few do
-pub own-pass : (k : Sketch) → Sound k → (l : ℕ) → k .level ≡ l → cellsOf k ≡ filter (passes (k .settings) l) (cellsOf k)
-own-pass k w l e = sym (filter-all (passes (k .settings) l) (cellsOf k) (λ x m. ap (λ (v : ℕ). passes (k .settings) v x) (sym e) ∙ w .pass x m))
+-- what a sketch's soundness says of the cells it was made of
+pub record Row (s : Settings) (level : ℕ) (xs : List ℕ) : Type 0 where
+  pub good : Good s
+  pub low : level ≤ top s
+  pub few : length xs ≤ 504
+  pub rise : Rising 1 (s .n) xs
+  pub pass : (x : ℕ) → listed xs x ≡ true → passes s level x ≡ true
 
-pub kept-few : (k : Sketch) → Sound k → (X : Cells) → length (filter X (cellsOf k)) ≤ 504
-kept-few k w X = omega (arith, filter-short X (cellsOf k), w .few, w .settings .capacity-high)
+pub row-of : (s : Settings) (level : ℕ) (xs : List ℕ) → Sound (sketchAt s level xs) → Row s level xs
+unfolding sketchAt
+row-of s level xs w =
+    let e = cells-at s level xs in
+    record {
+      good = w .settings;
+      low = w .level;
+      few = omega (arith, ap length e, w .few, w .settings .capacity-high);
+      rise = subst (Rising 1 (s .n)) e (w .rise);
+      pass = λ x m. w .pass x (ap (λ (l : List ℕ). listed l x) e ∙ m);
+    }
 
--- a sketch's cells before lo and after hi
-module _ (k : Sketch) (w : Sound k) (lo hi : ℕ) (one : 1 ≤ lo) (up : lo ≤ hi) (last : hi ≤ k .settings .n) where
+-- at its own level all of a row's cells pass; and at every level few do
+module _ {s : Settings} {level : ℕ} {xs : List ℕ} (w : Row s level xs) where
+  pub own-pass : (l : ℕ) → level ≡ l → xs ≡ filter (passes s l) xs
+  own-pass l e = sym (filter-all (passes s l) xs (λ x m. ap (λ (v : ℕ). passes s v x) (sym e) ∙ w .pass x m))
+
+  pub kept-few : (X : Cells) → length (filter X xs) ≤ 504
+  kept-few X = omega (arith, filter-short X xs, w .few)
+
+-- a row's cells before lo and after hi
+module _ {s : Settings} {level : ℕ} {xs : List ℕ} (w : Row s level xs) (lo hi : ℕ) (one : 1 ≤ lo) (up : lo ≤ hi) (last : hi ≤ s .n) where
   front : List ℕ
-  front = filter (cellsBelow lo) (cellsOf k)
+  front = filter (cellsBelow lo) xs
 
   back : List ℕ
-  back = filter (leb (suc hi)) (cellsOf k)
+  back = filter (leb (suc hi)) xs
 
-  pub around-add : Present (k .settings) (k .level) (filter (cellsBelow lo) (cellsOf k)) (filter (leb (suc hi)) (cellsOf k)) lo hi
+  pub around-add : Present s level (filter (cellsBelow lo) xs) (filter (leb (suc hi)) xs) lo hi
   unfolding front back
   around-add =
-      let n = k .settings .n in
-      let rf : Rising 1 n front = rising-filter (cellsBelow lo) (cellsOf k) 1 n (w .rise) in
-      let rb : Rising 1 n back = rising-filter (leb (suc hi)) (cellsOf k) 1 n (w .rise) in
+      let n = s .n in
+      let rf : Rising 1 n front = rising-filter (cellsBelow lo) xs 1 n (w .rise) in
+      let rb : Rising 1 n back = rising-filter (leb (suc hi)) xs 1 n (w .rise) in
       record {
         around =
             record {
-              good = w .settings;
+              good = w .good;
               one = one;
               start = omega arith;
               last = last;
               before =
                   rising-within front 1 n 1 (lo - 1) rf (λ x m.
-                  (rising-listed front 1 n x rf m .0, omega (arith, ltb-true x lo (filtered (cellsBelow lo) (cellsOf k) x m .0))));
+                  (rising-listed front 1 n x rf m .0, omega (arith, ltb-true x lo (filtered (cellsBelow lo) xs x m .0))));
               after =
                   rising-within back 1 n (suc hi) n rb (λ x m.
-                  (leb-true (suc hi) x (filtered (leb (suc hi)) (cellsOf k) x m .0), rising-listed back 1 n x rb m .1));
-              few = omega (arith, filter-short (cellsBelow lo) (cellsOf k), filter-short (leb (suc hi)) (cellsOf k), w .few, w .settings .capacity-high);
+                  (leb-true (suc hi) x (filtered (leb (suc hi)) xs x m .0), rising-listed back 1 n x rb m .1));
+              few = omega (arith, filter-short (cellsBelow lo) xs, filter-short (leb (suc hi)) xs, w .few);
             };
-        low = w .level;
-        front-passes = filter-all (passes (k .settings) (k .level)) front (λ x m. w .pass x (filtered (cellsBelow lo) (cellsOf k) x m .1));
-        back-passes = filter-all (passes (k .settings) (k .level)) back (λ x m. w .pass x (filtered (leb (suc hi)) (cellsOf k) x m .1));
+        low = w .low;
+        front-passes = filter-all (passes s level) front (λ x m. w .pass x (filtered (cellsBelow lo) xs x m .1));
+        back-passes = filter-all (passes s level) back (λ x m. w .pass x (filtered (leb (suc hi)) xs x m .1));
       }
 
-  pub all-add : allOf (filter (cellsBelow lo) (cellsOf k)) (filter (leb (suc hi)) (cellsOf k)) lo hi ≡ listed (cellsOf k) ∪ interval lo hi
+  pub all-add : allOf (filter (cellsBelow lo) xs) (filter (leb (suc hi)) xs) lo hi ≡ listed xs ∪ interval lo hi
   unfolding front back
   all-add = fun-ext (λ x.
-      ap (λ (t : Bool). (t || listed back x) || interval lo hi x) (listed-filter (cellsBelow lo) (cellsOf k) x ∙ ap (λ (t : Bool). t && listed (cellsOf k) x) (ltb-not x lo))
-      ∙ ap (λ (t : Bool). ((not (leb lo x) && listed (cellsOf k) x) || t) || interval lo hi x) (listed-filter (leb (suc hi)) (cellsOf k) x ∙ ap (λ (t : Bool). t && listed (cellsOf k) x) (ltb-not hi x))
-      ∙ inside-out (leb lo x) (leb x hi) (listed (cellsOf k) x))
+      ap (λ (t : Bool). (t || listed back x) || interval lo hi x) (listed-filter (cellsBelow lo) xs x ∙ ap (λ (t : Bool). t && listed xs x) (ltb-not x lo))
+      ∙ ap (λ (t : Bool). ((not (leb lo x) && listed xs x) || t) || interval lo hi x) (listed-filter (leb (suc hi)) xs x ∙ ap (λ (t : Bool). t && listed xs x) (ltb-not hi x))
+      ∙ inside-out (leb lo x) (leb x hi) (listed xs x))
     where
       -- a: lo ≤ x; b: x ≤ hi; c: kept
       inside-out : (a b c : Bool) → (((not a && c) || (not b && c)) || (a && b)) ≡ (c || (a && b))
@@ -259,105 +303,99 @@ module _ (k : Sketch) (w : Sound k) (lo hi : ℕ) (one : 1 ≤ lo) (up : lo ≤ 
       inside-out false false false = refl
 
   -- the same, where the row is cut at how many cells lie below lo, and how many up to hi
-  module _ (i j : ℕ) (ei : i ≡ length (filter (cellsBelow lo) (cellsOf k))) (ej : j ≡ length (filter (cellsBelow (hi + 1)) (cellsOf k))) where
-    cut-front : take i (cellsOf k) ≡ filter (cellsBelow lo) (cellsOf k)
-    cut-front = ap (λ (n : ℕ). take n (cellsOf k)) ei ∙ below-splits (cellsOf k) 1 (k .settings .n) lo (w .rise) .0
+  module _ (i j : ℕ) (ei : i ≡ length (filter (cellsBelow lo) xs)) (ej : j ≡ length (filter (cellsBelow (hi + 1)) xs)) where
+    cut-front : take i xs ≡ filter (cellsBelow lo) xs
+    cut-front = ap (λ (n : ℕ). take n xs) ei ∙ below-splits xs 1 (s .n) lo (w .rise) .0
 
-    cut-back : take (length (cellsOf k) - j) (drop j (cellsOf k)) ≡ filter (leb (suc hi)) (cellsOf k)
+    cut-back : take (length xs - j) (drop j xs) ≡ filter (leb (suc hi)) xs
     cut-back =
         let one : hi + 1 ≡ suc hi = omega arith in
-        part-rest (cellsOf k) j
-        ∙ ap (λ (n : ℕ). drop n (cellsOf k)) ej
-        ∙ below-splits (cellsOf k) 1 (k .settings .n) (hi + 1) (w .rise) .1
-        ∙ ap (λ (n : ℕ). filter (leb n) (cellsOf k)) one
+        part-rest xs j
+        ∙ ap (λ (n : ℕ). drop n xs) ej
+        ∙ below-splits xs 1 (s .n) (hi + 1) (w .rise) .1
+        ∙ ap (λ (n : ℕ). filter (leb n) xs) one
 
-    pub cut-few : (i ≤ length (cellsOf k)) × (j ≤ length (cellsOf k))
-    cut-few = (omega (arith, filter-short (cellsBelow lo) (cellsOf k)), omega (arith, filter-short (cellsBelow (hi + 1)) (cellsOf k)))
+    pub cut-few : (i ≤ length xs) × (j ≤ length xs)
+    cut-few = (omega (arith, filter-short (cellsBelow lo) xs), omega (arith, filter-short (cellsBelow (hi + 1)) xs))
 
-    pub cut-present : Present (k .settings) (k .level) (take i (cellsOf k)) (take (length (cellsOf k) - j) (drop j (cellsOf k))) lo hi
+    pub cut-present : Present s level (take i xs) (take (length xs - j) (drop j xs)) lo hi
     cut-present = rw (cut-front, cut-back) around-add
 
-    pub cut-add : sketchFrom (k .settings) (allOf (take i (cellsOf k)) (take (length (cellsOf k) - j) (drop j (cellsOf k))) lo hi) (k .level) ≡ add k lo hi
-    unfolding add
-    cut-add = rw (cut-front, cut-back) (ap (λ (X : Cells). sketchFrom (k .settings) X (k .level)) all-add)
+    pub cut-add : sketchFrom s (allOf (take i xs) (take (length xs - j) (drop j xs)) lo hi) level ≡ add (sketchAt s level xs) lo hi
+    unfolding add sketchAt
+    cut-add =
+        rw (cut-front, cut-back)
+        (ap (λ (X : Cells). sketchFrom s X level) all-add ∙ ap (λ (l : List ℕ). sketchFrom s (listed l ∪ interval lo hi) level) (sym (cells-at s level xs)))
 
--- two sketches' cells that pass at a level, with an empty range after them
-module _ (j k : Sketch) (same : j .settings ≡ k .settings) (wj : Sound j) (wk : Sound k) where
-  s : Settings
-  s = j .settings
-
+-- two rows' cells that pass at a level, with an empty range after them
+module _ {s : Settings} {l m : ℕ} {xs ys : List ℕ} (wx : Row s l xs) (wy : Row s m ys) where
   level : ℕ
-  level = max (j .level) (k .level)
+  level = max l m
 
   both : List ℕ
-  both = union (filter (passes s level) (cellsOf j)) (filter (passes s level) (cellsOf k))
+  both = union (filter (passes s level) xs) (filter (passes s level) ys)
 
-  rise-k : Rising 1 (s .n) (cellsOf k)
-  unfolding s
-  rise-k = subst (λ (t : Settings). Rising 1 (t .n) (cellsOf k)) (sym same) (wk .rise)
-
-  both-listed : (x : ℕ) → listed both x ≡ (passes s level x && (listed (cellsOf j) x || listed (cellsOf k) x))
+  both-listed : (x : ℕ) → listed both x ≡ (passes s level x && (listed xs x || listed ys x))
   unfolding both
   both-listed x =
-      listed-union (filter (passes s level) (cellsOf j)) (filter (passes s level) (cellsOf k)) x
-      ∙ ap (λ (t : Bool). t || listed (filter (passes s level) (cellsOf k)) x) (listed-filter (passes s level) (cellsOf j) x)
-      ∙ ap (λ (t : Bool). (passes s level x && listed (cellsOf j) x) || t) (listed-filter (passes s level) (cellsOf k) x)
-      ∙ sym (and-or (passes s level x) (listed (cellsOf j) x) (listed (cellsOf k) x))
+      listed-union (filter (passes s level) xs) (filter (passes s level) ys) x
+      ∙ ap (λ (t : Bool). t || listed (filter (passes s level) ys) x) (listed-filter (passes s level) xs x)
+      ∙ ap (λ (t : Bool). (passes s level x && listed xs x) || t) (listed-filter (passes s level) ys x)
+      ∙ sym (and-or (passes s level x) (listed xs x) (listed ys x))
     where
       and-or : (p a b : Bool) → (p && (a || b)) ≡ ((p && a) || (p && b))
       and-or true a b = refl
       and-or false a b = refl
 
-  pub around-merge : Present (j .settings) (max (j .level) (k .level))
-      (union (filter (passes (j .settings) (max (j .level) (k .level))) (cellsOf j)) (filter (passes (j .settings) (max (j .level) (k .level))) (cellsOf k)))
+  pub around-merge : Present s (max l m)
+      (union (filter (passes s (max l m)) xs) (filter (passes s (max l m)) ys))
       []
-      (suc (j .settings .n))
-      (j .settings .n)
-  unfolding s level both
+      (suc (s .n))
+      (s .n)
+  unfolding level both
   around-merge =
       let n = s .n in
       let e : n ≡ suc n - 1 = omega arith in
-      let a = filter (passes s level) (cellsOf j) in
-      let b = filter (passes s level) (cellsOf k) in
-      let top-k : k .level ≤ top s = subst (λ (t : Settings). k .level ≤ top t) (sym same) (wk .level) in
+      let a = filter (passes s level) xs in
+      let b = filter (passes s level) ys in
       record {
         around =
             record {
-              good = wj .settings;
+              good = wx .good;
               one = omega arith;
               start = omega arith;
               last = omega arith;
-              before = subst (λ (m : ℕ). Rising 1 m both) e (rising-union a b 1 n (rising-filter (passes s level) (cellsOf j) 1 n (wj .rise)) (rising-filter (passes s level) (cellsOf k) 1 n rise-k));
+              before = subst (λ (m : ℕ). Rising 1 m both) e (rising-union a b 1 n (rising-filter (passes s level) xs 1 n (wx .rise)) (rising-filter (passes s level) ys 1 n (wy .rise)));
               after = tt;
               few =
                   omega (
                     arith,
                     union-short a b,
-                    filter-short (passes s level) (cellsOf j),
-                    filter-short (passes s level) (cellsOf k),
-                    wj .few,
-                    wj .settings .capacity-high,
-                    wk .few,
-                    wk .settings .capacity-high,
+                    filter-short (passes s level) xs,
+                    filter-short (passes s level) ys,
+                    wx .few,
+                    wy .few,
                   );
             };
-        low = omega (arith, wj .level);
-        front-passes = filter-all (passes s level) both (λ x m. and-parts (passes s level x) (listed (cellsOf j) x || listed (cellsOf k) x) (sym (both-listed x) ∙ m) .0);
+        low = omega (arith, wx .low, wy .low);
+        front-passes = filter-all (passes s level) both (λ x m. and-parts (passes s level x) (listed xs x || listed ys x) (sym (both-listed x) ∙ m) .0);
         back-passes = refl;
       }
 
-  pub all-merge : sketchFrom (j .settings)
-      (allOf (union (filter (passes (j .settings) (max (j .level) (k .level))) (cellsOf j)) (filter (passes (j .settings) (max (j .level) (k .level))) (cellsOf k))) [] (suc (j .settings .n)) (j .settings .n))
-      (max (j .level) (k .level))
-      ≡ merge j k
-  unfolding s level both merge
+  pub all-merge : sketchFrom s
+      (allOf (union (filter (passes s (max l m)) xs) (filter (passes s (max l m)) ys)) [] (suc (s .n)) (s .n))
+      (max l m)
+      ≡ merge (sketchAt s l xs) (sketchAt s m ys)
+  unfolding level both merge sketchAt
   all-merge =
-      from-same s level (allOf both [] (suc (s .n)) (s .n)) (listed (cellsOf j) ∪ listed (cellsOf k)) (λ x i p.
+      from-same s level (allOf both [] (suc (s .n)) (s .n)) (listed xs ∪ listed ys) (λ x i p.
       ap (λ (t : Bool). (listed both x || false) || t) (none x)
       ∙ or-false (listed both x || false)
       ∙ or-false (listed both x)
       ∙ both-listed x
-      ∙ ap (λ (t : Bool). t && (listed (cellsOf j) x || listed (cellsOf k) x)) p)
+      ∙ ap (λ (t : Bool). t && (listed xs x || listed ys x)) p)
+      ∙ ap (λ (c : List ℕ). sketchFrom s (listed c ∪ listed ys) level) (sym (cells-at s l xs))
+      ∙ ap (λ (c : List ℕ). sketchFrom s (listed (cellsOf (sketchAt s l xs)) ∪ listed c) level) (sym (cells-at s m ys))
     where
       none : (x : ℕ) → (leb (suc (s .n)) x && leb x (s .n)) ≡ false
       none x =
@@ -367,15 +405,12 @@ module _ (j k : Sketch) (same : j .settings ≡ k .settings) (wj : Sound j) (wk 
           (tested (leb (suc (s .n)) x))
 
   -- the same with the numbers of the code
-  module _ (l : ℕ) (row : List ℕ) (el : l ≡ max (j .level) (k .level)) (er : row ≡ union (filter (passes (j .settings) l) (cellsOf j)) (filter (passes (k .settings) l) (cellsOf k))) where
-    row-is : row ≡ union (filter (passes (j .settings) (max (j .level) (k .level))) (cellsOf j)) (filter (passes (j .settings) (max (j .level) (k .level))) (cellsOf k))
-    row-is =
-        er
-        ∙ ap (λ (t : Settings). union (filter (passes (j .settings) l) (cellsOf j)) (filter (passes t l) (cellsOf k))) (sym same)
-        ∙ ap (λ (m : ℕ). union (filter (passes (j .settings) m) (cellsOf j)) (filter (passes (j .settings) m) (cellsOf k))) el
+  module _ (from : ℕ) (row : List ℕ) (el : from ≡ max l m) (er : row ≡ union (filter (passes s from) xs) (filter (passes s from) ys)) where
+    row-is : row ≡ union (filter (passes s (max l m)) xs) (filter (passes s (max l m)) ys)
+    row-is = er ∙ ap (λ (v : ℕ). union (filter (passes s v) xs) (filter (passes s v) ys)) el
 
-    pub both-present : Present (j .settings) l row [] (j .settings .n + 1) (j .settings .n)
-    both-present = let one : j .settings .n + 1 ≡ suc (j .settings .n) = omega arith in rw (row-is, el, one) around-merge
+    pub both-present : Present s from row [] (s .n + 1) (s .n)
+    both-present = let one : s .n + 1 ≡ suc (s .n) = omega arith in rw (row-is, el, one) around-merge
 
-    pub both-merge : sketchFrom (j .settings) (allOf row [] (j .settings .n + 1) (j .settings .n)) l ≡ merge j k
-    both-merge = let one : j .settings .n + 1 ≡ suc (j .settings .n) = omega arith in rw (row-is, el, one) all-merge
+    pub both-merge : sketchFrom s (allOf row [] (s .n + 1) (s .n)) from ≡ merge (sketchAt s l xs) (sketchAt s m ys)
+    both-merge = let one : s .n + 1 ≡ suc (s .n) = omega arith in rw (row-is, el, one) all-merge

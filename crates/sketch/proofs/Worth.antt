@@ -1,5 +1,5 @@
 -- The laws of the estimate: a number of cells times 2^level is held by a 64-bit float with nothing lost.
---     shifted, held    the shift loses nothing, and neither does the cast
+--     shifted, in-float    the shift loses nothing, and neither does the cast
 --     estimate-not, estimate-exact, estimate-about    the answers
 -- Assumes nothing.
 use mathlib.Core.Path.{_≡_, sym, ap, _∙_}
@@ -31,9 +31,9 @@ module _ (level count : ℕ) (hl : level ≤ 31) (hc : count ≤ 504) where
   pub shifted : count * 2 ^ level % 18446744073709551616 ≡ count * 2 ^ level
   shifted = mod-eq-of-lt (lt-of-le-of-lt room (lit< tt))
 
-  pub held : T (inFloat binary64 (pos (count * 2 ^ level)))
+  pub in-float : T (inFloat binary64 (pos (count * 2 ^ level)))
   unfolding inFloat
-  held = le→leb (count * 2 ^ level) (2 ^ 53) (le-trans room (lit≤ tt))
+  in-float = le→leb (count * 2 ^ level) (2 ^ 53) (le-trans room (lit≤ tt))
 
   pub worth-about : HasValue (ofInt binary64 (pos (count * 2 ^ level))) false (count * 2 ^ level) 1
   unfolding ofInt

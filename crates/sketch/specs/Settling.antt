@@ -2,10 +2,11 @@
 use Prim.Native.Nat.{ℕ, suc, _+_, _-_, _≤_}
 use mathlib.Core.Path.{_≡_}
 use mathlib.Core.List.{List, _++_}
-use lib.ListN.{length}
+use lib.ListN.{length, replicate}
 use Rattle.rule.specs.declared.Settings.{Settings}
 use Rattle.rule.specs.Cells.{Cells, _∪_, interval, listed, filter, range, Rising}
 use Rattle.rule.specs.Rule.{Good, passes, top}
+use Rattle.rule.specs.Samples.{rangeCount}
 
 -- the cells of a row before lo and of one after hi, with those of lo..hi
 abbrev pub allOf : List ℕ → List ℕ → ℕ → ℕ → Cells
@@ -31,3 +32,10 @@ pub record Present (s : Settings) (level : ℕ) (front back : List ℕ) (lo hi :
   pub low : level ≤ top s
   pub front-passes : filter (passes s level) front ≡ front
   pub back-passes : filter (passes s level) back ≡ back
+
+-- what gathering takes: how many of lo..hi pass, and a row of zeros with room for them and for two rows
+pub record Gathers (s : Settings) (level : ℕ) (front back : List ℕ) (lo hi hits : ℕ) (f b out : List ℕ) : Type 0 where
+  pub around : Around s front back lo hi
+  pub counted : hits ≡ rangeCount s level lo hi
+  pub few : length (between s level f b lo hi) ≤ 504
+  pub zeros : out ≡ replicate 504 0

@@ -13,9 +13,13 @@ use Rattle.rule.specs.Samples.{sample, lowest}
 use Rattle.rows.specs.Walked.{risesFrom}
 use Rattle.sketch.specs.declared.Sketch.{Sketch}
 
+-- a sketch from its parts, whatever they are
+abbrev pub held : Settings → ℕ → ℕ → List ℕ → Sketch
+held s level count cells = record { settings = s; level = level; count = count; cells = cells }
+
 -- the sketch that keeps these cells at a level, with zeros in the unused places: the one maker of sketches
 unfoldable pub sketchAt : Settings → ℕ → List ℕ → Sketch
-sketchAt s level xs = record { settings = s; level = level; count = length xs; cells = pad 504 xs }
+sketchAt s level xs = held s level (length xs) (pad 504 xs)
 
 -- the kept cells
 unfoldable pub cellsOf : Sketch → List ℕ

@@ -1,14 +1,15 @@
 // The sketch, by value: is it one, opening, adding, merging, the estimate.
 ghost use mathlib.Core.Path.{_≡_};
 ghost use mathlib.Core.Bool.{true};
-ghost use Prim.Native.Nat.{ℕ, _<_, _≤_, max};
-ghost use lib.ListN.{length};
+ghost use Prim.Native.Nat.{ℕ, _+_, _-_, _<_, _≤_, max, min};
+ghost use lib.Count.{leadingZeros};
+ghost use lib.ListN.{length, replicate};
 ghost use Rattle.rule.specs.Cells.{filter};
 ghost use Rattle.rule.specs.Rule.{passes, top};
 ghost use Rattle.rule.specs.Samples.{fits, lowest};
 ghost use Rattle.rows.specs.Walked.{Stored};
-ghost use Rattle.sketch.specs.Sketches.{isSketch, Sound, cellsOf, sketchAt, sketchFrom, opened, add, merge};
-ghost use Rattle.sketch.specs.Settling.{Around, Present, allOf, between};
+ghost use Rattle.sketch.specs.Sketches.{held, isSketch, Sound, cellsOf, sketchAt, sketchFrom, opened, add, merge};
+ghost use Rattle.sketch.specs.Settling.{Around, Present, Gathers, allOf, between};
 ghost use Rattle.sketch.specs.Calls.{Hands, doneWith, refusedWith, noSketch, openOn, addOn, mergeOn, sameSettings, AddsTo, MergesWith};
 ghost use Rattle.sketch.specs.Estimates.{Estimates};
 use rule::Settings;
@@ -24,6 +25,12 @@ pub struct Sketch {
     pub level: u32,
     pub count: u32,
     pub cells: [u32; 504],
+}
+
+// The level after a change, and the number of cells: what is new beside the row.
+pub struct Kept {
+    pub level: u32,
+    pub count: u32,
 }
 
 // The answer, and the sketch handed back beside it.
@@ -74,6 +81,36 @@ pub fn same_settings(s: Settings, t: Settings) -> bool
     (s.n == t.n) & ((s.p == t.p) & ((s.a == t.a) & ((s.b == t.b) & (s.capacity == t.capacity))))
 }
 
+// Is it a sketch? Asked of its parts where they stand: the row isn't copied.
+pub fn is_sketch(settings: Settings, level: u32, count: u32, cells: &[u32]) -> bool
+    requires { ⌜ length (now cells) ≡ 504 ⌝ }
+    ensures { λ r. ⌜ r ≡ isSketch (held settings level count (now (cells .entry))) ⌝ }
+{
+    if !settings.good() {
+        return false;
+    }
+    if settings.capacity < count {
+        return false;
+    }
+    let n = count as usize;
+    settings.has_level(level)
+        & (rows::rises(settings, level, &cells[..n]) & rows::zeros(&cells[n..]))
+}
+
+// The number of cells, times 2^level: below 2^53, so the float loses nothing.
+pub fn estimate_of(settings: Settings, level: u32, count: u32, cells: &[u32]) -> Estimate
+    requires { ⌜ length (now cells) ≡ 504 ⌝ }
+    ensures { λ r. ⌜ Estimates (held settings level count (now (cells .entry))) r ⌝ }
+{
+    if !is_sketch(settings, level, count, cells) {
+        return Estimate::Refused(4);
+    }
+    if level == 0 {
+        return Estimate::Exact(count);
+    }
+    Estimate::About(((count as u64) << level) as f64)
+}
+
 // Do the cells of the two rows and of lo..hi that pass at the level fit? The range is counted
 // first: where it alone is too much, no row is walked.
 fn fits_at(settings: Settings, level: u32, front: &[u32], back: &[u32], lo: u32, hi: u32) -> bool
@@ -90,8 +127,8 @@ fn fits_at(settings: Settings, level: u32, front: &[u32], back: &[u32], lo: u32,
     hits + before + after <= capacity
 }
 
-// The lowest level from this one on at which they fit: there is one, because of the top.
-fn raised(settings: Settings, level: u32, front: &[u32], back: &[u32], lo: u32, hi: u32) -> u32
+// The first level from this one on at which they fit: there is one, because of the top.
+fn climbed(settings: Settings, level: u32, front: &[u32], back: &[u32], lo: u32, hi: u32) -> u32
     requires { ⌜ Around settings (now front) (now back) lo hi × (level ≤ top settings) ⌝ }
     ensures { λ r. ⌜ r ≡ lowest settings (allOf (now (front .entry)) (now (back .entry)) lo hi) level ⌝ }
 {
@@ -102,53 +139,166 @@ fn raised(settings: Settings, level: u32, front: &[u32], back: &[u32], lo: u32, 
     l
 }
 
-// The sketch of the rows' cells and those of lo..hi that pass at the level.
-fn gathered(settings: Settings, level: u32, front: &[u32], back: &[u32], lo: u32, hi: u32) -> Sketch
-    requires { ⌜ Around settings (now front) (now back) lo hi × (length (between settings level (now front) (now back) lo hi) ≤ 504) ⌝ }
-    ensures { λ r. ⌜ r ≡ sketchAt settings level (between settings level (now (front .entry)) (now (back .entry)) lo hi) ⌝ }
+// The same, from a guess: each level about halves what passes, so two tests are enough as a rule.
+// What fits at a level fits at every higher one.
+fn raised(
+    settings: Settings,
+    level: u32,
+    guess: u32,
+    front: &[u32],
+    back: &[u32],
+    lo: u32,
+    hi: u32,
+) -> u32
+    requires { ⌜ Around settings (now front) (now back) lo hi × (level ≤ guess) × (guess ≤ top settings) ⌝ }
+    ensures { λ r. ⌜ r ≡ lowest settings (allOf (now (front .entry)) (now (back .entry)) lo hi) level ⌝ }
 {
-    let mut out = [0u32; 504];
-    let first = rows::store(&mut out, 0, front);
-    let second = rows::store_hits(&mut out, first, settings, level, lo, hi);
-    let count = rows::store(&mut out, second, back);
-    Sketch {
-        settings,
-        level,
-        count: count as u32,
-        cells: out,
+    let found = climbed(settings, guess, front, back, lo, hi);
+    if guess < found {
+        return found;
     }
+    let mut l = guess;
+    while level < l {
+        if !fits_at(settings, l - 1, front, back, lo, hi) {
+            return l;
+        }
+        l = l - 1;
+    }
+    l
 }
 
-// The same of those of the rows' cells that pass at the level.
-fn thinned(settings: Settings, level: u32, front: &[u32], back: &[u32], lo: u32, hi: u32) -> Sketch
-    requires { ⌜ Around settings (now front) (now back) lo hi × (length (between settings level (filter (passes settings level) (now front)) (filter (passes settings level) (now back)) lo hi) ≤ 504) ⌝ }
-    ensures { λ r. ⌜ r ≡ sketchAt settings level (between settings level (filter (passes settings level) (now (front .entry))) (filter (passes settings level) (now (back .entry))) lo hi) ⌝ }
+// A level for so many cells, of which each level keeps about half: by the length of the numbers.
+fn guessed(level: u32, many: usize, capacity: usize, top: u32) -> u32
+    requires { ⌜ (level ≤ top) × (top ≤ 32) ⌝ }
+    ensures { λ r. ⌜ r ≡ min top (level + (leadingZeros 64 capacity - leadingZeros 64 many - 1)) ⌝ }
 {
-    let mut out = [0u32; 504];
-    let first = rows::store_passing(&mut out, 0, settings, level, front);
-    let second = rows::store_hits(&mut out, first, settings, level, lo, hi);
-    let count = rows::store_passing(&mut out, second, settings, level, back);
-    Sketch {
-        settings,
-        level,
-        count: count as u32,
-        cells: out,
+    let short = usize::leading_zeros(capacity);
+    let long = usize::leading_zeros(many);
+    if short <= long {
+        return level;
     }
+    rule::lesser(top, level + (short - long - 1))
 }
 
-// The sketch of two rows, all of whose cells pass at the level, and of lo..hi between them. At
-// this level no cell need be hashed; above it each raise is one more walk.
-fn settled(settings: Settings, level: u32, front: &[u32], back: &[u32], lo: u32, hi: u32) -> Sketch
-    requires { ⌜ Present settings level (now front) (now back) lo hi ⌝ }
-    ensures { λ r. ⌜ r ≡ sketchFrom settings (allOf (now (front .entry)) (now (back .entry)) lo hi) level ⌝ }
+// Stores the rows' cells and those of lo..hi that pass at the level; answers how many they are.
+fn gathered(
+    out: &mut [u32],
+    settings: Settings,
+    level: u32,
+    front: &[u32],
+    back: &[u32],
+    lo: u32,
+    hi: u32,
+    hits: usize,
+) -> u32
+    requires { ⌜ Gathers settings level (now front) (now back) lo hi hits (now front) (now back) (now out) ⌝ }
+    ensures { λ r. ⌜ held settings level r (now (out .exit)) ≡ sketchAt settings level (between settings level (now (front .entry)) (now (back .entry)) lo hi) ⌝ }
+{
+    let first = rows::store(out, 0, front);
+    let second = rows::store_hits(out, first, settings, level, lo, hi, hits);
+    let count = rows::store(out, second, back);
+    count as u32
+}
+
+// The same for those of the rows' cells that pass at the level.
+fn thinned(
+    out: &mut [u32],
+    settings: Settings,
+    level: u32,
+    front: &[u32],
+    back: &[u32],
+    lo: u32,
+    hi: u32,
+    hits: usize,
+) -> u32
+    requires { ⌜ Gathers settings level (now front) (now back) lo hi hits (filter (passes settings level) (now front)) (filter (passes settings level) (now back)) (now out) ⌝ }
+    ensures { λ r. ⌜ held settings level r (now (out .exit)) ≡ sketchAt settings level (between settings level (filter (passes settings level) (now (front .entry))) (filter (passes settings level) (now (back .entry))) lo hi) ⌝ }
+{
+    let first = rows::store_passing(out, 0, settings, level, front);
+    let second = rows::store_hits(out, first, settings, level, lo, hi, hits);
+    let count = rows::store_passing(out, second, settings, level, back);
+    count as u32
+}
+
+// The level and the row of the sketch of two rows, all of whose cells pass at the level, and of
+// lo..hi between them. At this level no cell need be hashed; only for a higher one are they.
+fn settled(
+    out: &mut [u32],
+    settings: Settings,
+    level: u32,
+    front: &[u32],
+    back: &[u32],
+    lo: u32,
+    hi: u32,
+) -> Kept
+    requires { ⌜ Present settings level (now front) (now back) lo hi × (now out ≡ replicate 504 0) ⌝ }
+    ensures { λ r. ⌜ held settings (r .level) (r .count) (now (out .exit)) ≡ sketchFrom settings (allOf (now (front .entry)) (now (back .entry)) lo hi) level ⌝ }
 {
     let capacity = settings.capacity as usize;
     let hits = find::count_in(settings, level, lo, hi) as usize;
-    if hits + front.len() + back.len() <= capacity {
-        return gathered(settings, level, front, back, lo, hi);
+    let many = hits + front.len() + back.len();
+    if many <= capacity {
+        let count = gathered(out, settings, level, front, back, lo, hi, hits);
+        return Kept { level, count };
     }
-    let l = raised(settings, level + 1, front, back, lo, hi);
-    thinned(settings, l, front, back, lo, hi)
+    let guess = guessed(level + 1, many, capacity, settings.top());
+    let l = raised(settings, level + 1, guess, front, back, lo, hi);
+    let left = find::count_in(settings, l, lo, hi) as usize;
+    let count = thinned(out, settings, l, front, back, lo, hi, left);
+    Kept { level: l, count }
+}
+
+// Adds lo..hi to the cells kept at a level, into a row of zeros.
+pub fn add_to(
+    out: &mut [u32],
+    settings: Settings,
+    level: u32,
+    kept: &[u32],
+    lo: u32,
+    hi: u32,
+) -> Kept
+    requires { ⌜ AddsTo (sketchAt settings level (now kept)) lo hi × (now out ≡ replicate 504 0) ⌝ }
+    ensures { λ r. ⌜ held settings (r .level) (r .count) (now (out .exit)) ≡ add (sketchAt settings level (now (kept .entry))) lo hi ⌝ }
+{
+    let i = rows::below(kept, lo);
+    let j = rows::below(kept, hi + 1);
+    settled(out, settings, level, &kept[..i], &kept[j..], lo, hi)
+}
+
+// Stores those of the cells kept at the level `own` that pass at a level no lower; at their own
+// all pass.
+fn store_at(out: &mut [u32], settings: Settings, own: u32, level: u32, kept: &[u32]) -> usize
+    requires { ⌜ Sound (sketchAt settings own (now kept)) × (504 ≤ length (now out)) ⌝ }
+    ensures { λ r. ⌜ Stored (now (out .entry)) 0 (filter (passes settings level) (now (kept .entry))) r (now (out .exit)) ⌝ }
+{
+    if own == level {
+        return rows::store(out, 0, kept);
+    }
+    rows::store_passing(out, 0, settings, level, kept)
+}
+
+// Merges the cells kept at the levels l and m, into a row of zeros.
+pub fn merge_to(
+    out: &mut [u32],
+    settings: Settings,
+    l: u32,
+    kept: &[u32],
+    m: u32,
+    other: &[u32],
+) -> Kept
+    requires { ⌜ MergesWith (sketchAt settings l (now kept)) (sketchAt settings m (now other)) × (now out ≡ replicate 504 0) ⌝ }
+    ensures { λ r. ⌜ held settings (r .level) (r .count) (now (out .exit)) ≡ merge (sketchAt settings l (now (kept .entry))) (sketchAt settings m (now (other .entry))) ⌝ }
+{
+    let from = higher(l, m);
+    let mut a = [0u32; 504];
+    let i = store_at(&mut a, settings, l, from, kept);
+    let mut b = [0u32; 504];
+    let j = store_at(&mut b, settings, m, from, other);
+    let mut both = [0u32; 1008];
+    let k = rows::store_union(&mut both, &a[..i], &b[..j]);
+    // No range: it lies after every cell.
+    let end = settings.n;
+    settled(out, settings, from, &both[..k], &[], end + 1, end)
 }
 
 fn higher(a: u32, b: u32) -> u32
@@ -158,23 +308,10 @@ fn higher(a: u32, b: u32) -> u32
 }
 
 impl Sketch {
-    // Is it a sketch? One pass over its places.
     pub fn good(self) -> bool
         ensures { λ r. ⌜ r ≡ isSketch self ⌝ }
     {
-        let settings = self.settings;
-        let count = self.count;
-        if !settings.good() {
-            return false;
-        }
-        if settings.capacity < count {
-            return false;
-        }
-        let level = self.level;
-        let cells = self.cells;
-        let n = count as usize;
-        settings.has_level(level)
-            & (rows::rises(settings, level, &cells[..n]) & rows::zeros(&cells[n..]))
+        is_sketch(self.settings, self.level, self.count, &self.cells)
     }
 
     pub fn open(settings: Settings) -> Changed
@@ -199,10 +336,14 @@ impl Sketch {
         let settings = self.settings;
         let cells = self.cells;
         let n = self.count as usize;
-        let kept = &cells[..n];
-        let i = rows::below(kept, lo);
-        let j = rows::below(kept, hi + 1);
-        settled(settings, self.level, &kept[..i], &kept[j..], lo, hi)
+        let mut out = [0u32; 504];
+        let kept = add_to(&mut out, settings, self.level, &cells[..n], lo, hi);
+        Sketch {
+            settings,
+            level: kept.level,
+            count: kept.count,
+            cells: out,
+        }
     }
 
     pub fn add(self, lo: u32, hi: u32) -> Changed
@@ -217,36 +358,31 @@ impl Sketch {
         done(self.add_good(lo, hi))
     }
 
-    // Stores the cells that pass at a level no lower than its own; at its own all pass.
-    fn store_at(self, level: u32, out: &mut [u32]) -> usize
-        requires { ⌜ Sound self × (504 ≤ length (now out)) ⌝ }
-        ensures { λ r. ⌜ Stored (now (out .entry)) 0 (filter (passes (self .settings) level) (cellsOf self)) r (now (out .exit)) ⌝ }
-    {
-        let cells = self.cells;
-        let n = self.count as usize;
-        let kept = &cells[..n];
-        if self.level == level {
-            return rows::store(out, 0, kept);
-        }
-        rows::store_passing(out, 0, self.settings, level, kept)
-    }
-
     // Merging two known sketches with the same settings.
     pub fn merge_good(self, other: Sketch) -> Sketch
         requires { ⌜ MergesWith self other ⌝ }
         ensures { λ r. ⌜ r ≡ merge self other ⌝ }
     {
         let settings = self.settings;
-        let level = higher(self.level, other.level);
-        let mut a = [0u32; 504];
-        let n = self.store_at(level, &mut a);
-        let mut b = [0u32; 504];
-        let m = other.store_at(level, &mut b);
-        let mut both = [0u32; 1008];
-        let k = rows::store_union(&mut both, &a[..n], &b[..m]);
-        // No range: it lies after every cell.
-        let end = settings.n;
-        settled(settings, level, &both[..k], &[], end + 1, end)
+        let cells = self.cells;
+        let n = self.count as usize;
+        let others = other.cells;
+        let m = other.count as usize;
+        let mut out = [0u32; 504];
+        let kept = merge_to(
+            &mut out,
+            settings,
+            self.level,
+            &cells[..n],
+            other.level,
+            &others[..m],
+        );
+        Sketch {
+            settings,
+            level: kept.level,
+            count: kept.count,
+            cells: out,
+        }
     }
 
     pub fn merge(self, other: Sketch) -> Changed
@@ -264,18 +400,9 @@ impl Sketch {
         done(self.merge_good(other))
     }
 
-    // The number of cells, times 2^level: below 2^53, so the float loses nothing.
     pub fn estimate(self) -> Estimate
         ensures { λ r. ⌜ Estimates self r ⌝ }
     {
-        if !self.good() {
-            return Estimate::Refused(4);
-        }
-        let level = self.level;
-        let count = self.count;
-        if level == 0 {
-            return Estimate::Exact(count);
-        }
-        Estimate::About(((count as u64) << level) as f64)
+        estimate_of(self.settings, self.level, self.count, &self.cells)
     }
 }

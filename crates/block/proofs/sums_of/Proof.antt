@@ -28,11 +28,14 @@ word-at-requires c κs = omega arith
 add-plain : tie.Need-add-plain Inv-loop μ-loop
 add-plain c = omega arith
 
+widen-requires : tie.Need-widen-requires Inv-loop μ-loop
+widen-requires c κs = search needs
+
 mul-weighted : tie.Need-mul-weighted Inv-loop μ-loop
-mul-weighted c = omega (arith, weight-small (c .before .before .loop .weight) (c .word-at .result) (omega arith) (omega arith))
+mul-weighted c = omega (arith, weight-small (c .widen .result) (c .before .word-at .result) (omega arith) (omega arith))
 
 add-weighted : tie.Need-add-weighted Inv-loop μ-loop
-add-weighted c = omega (arith, weight-small (c .before .before .loop .weight) (c .word-at .result) (omega arith) (omega arith))
+add-weighted c = omega (arith, weight-small (c .widen .result) (c .before .word-at .result) (omega arith) (omega arith))
 
 sub-weight : tie.Need-sub-weight Inv-loop μ-loop
 sub-weight c = omega arith
@@ -45,15 +48,16 @@ loop-less c = omega arith
 
 loop-again : tie.Need-loop-again Inv-loop μ-loop
 loop-again c =
-    let l = c .before .before .loop in
-    let s = c .before .before .before .before .args .s .now in
-    let small = weight-small (l .weight) (c .word-at .result) (omega arith) (omega arith) in (
+    let l = c .before .before .before .loop in
+    let s = c .before .before .before .before .before .args .s .now in
+    let w = c .before .word-at .ensures .0 in
+    let small = weight-small (c .widen .result) (c .before .word-at .result) (omega arith) (omega arith) in (
       omega arith,
       omega arith,
       omega arith,
       omega arith,
-      plain-on s (l .i) (c .word-at .ensures .0) (l .inv .4),
-      weighted-on s (l .i) (c .word-at .ensures .0) (l .inv .1) (l .inv .5),
+      plain-on s (l .i) w (l .inv .4),
+      weighted-on s (l .i) w (c .widen .ensures .0 ∙ l .inv .1) (l .inv .5),
     )
 
 reduced-requires : tie.Need-reduced-requires Inv-loop μ-loop
@@ -79,6 +83,7 @@ sums-of-spec =
     mul-word-at
     word-at-requires
     add-plain
+    widen-requires
     mul-weighted
     add-weighted
     sub-weight

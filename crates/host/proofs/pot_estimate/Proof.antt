@@ -1,26 +1,22 @@
 -- `host::pot_estimate` meets its contract: the estimate crosses as a double. Assumes nothing.
 use mathlib.Core.Path.{ap, _∙_}
-use borrow.Author.Needs.{needs}
 use Rattle.sketch.specs.Estimates.{refusalOf}
 use Rattle.host.specs.Crossing.{doubleOf}
+use borrow.Author.Needs.{needs}
 use Rattle.host.proofs.pot_estimate.Statement.{statement}
 use Rattle.host.proofs.pot_estimate.Tie as tie
 
-sketch-in-requires : tie.Need-sketch-in-requires
-sketch-in-requires c κs = search needs
-
-estimate-requires : tie.Need-estimate-requires
-estimate-requires c κs = search needs
+estimate-in-requires : tie.Need-estimate-in-requires
+estimate-in-requires c κs = search needs
 
 told-double-requires : tie.Need-told-double-requires
 told-double-requires c κs = search needs
 
 returns : tie.Need-returns
 returns c =
-    let e = rw (c .before .before .sketch-in .ensures) at (c .before .estimate .ensures .is) in
+    let e = c .before .estimate-in .ensures in
     let t = c .told-double .ensures in
     record { number = t .0 ∙ ap refusalOf e; value = t .1 ∙ ap doubleOf e }
 
 pub pot-estimate-spec : {M : Type 1} → statement M
-pot-estimate-spec =
-    tie.close (tie.spec sketch-in-requires estimate-requires told-double-requires returns)
+pot-estimate-spec = tie.close (tie.spec estimate-in-requires told-double-requires returns)

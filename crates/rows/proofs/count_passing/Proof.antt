@@ -7,18 +7,21 @@ use lib.Seq.{take-all}
 use Rattle.rule.specs.Cells.{filter}
 use Rattle.rule.specs.Rule.{passes}
 use Rattle.rule.proofs.Steps.{filter-on, filter-off, length-more}
-use Rattle.rows.proofs.Walks.{passes-on, passes-off}
+use Rattle.rows.proofs.Walks.{same-settings, hasher-ready, passes-on, passes-off}
 use Rattle.rows.proofs.count_passing.Statement.{statement}
 use Rattle.rows.proofs.count_passing.Tie as tie
 
 abbrev Inv-loop : tie.InvT-loop
-Inv-loop settings level row size many₀ i₀ many i = (i ≤ length row) × (many ≤ i) × (many ≡ length (filter (passes settings level) (take i row)))
+Inv-loop level row size hasher many₀ i₀ many i = (i ≤ length row) × (many ≤ i) × (many ≡ length (filter (passes (hasher .settings) level) (take i row)))
 
 abbrev μ-loop : tie.MeasureT-loop
-μ-loop settings level row size many₀ i₀ many i = length row - i
+μ-loop level row size hasher many₀ i₀ many i = length row - i
 
 region-requires : tie.Need-region-requires Inv-loop μ-loop
 region-requires c κs = omega arith
+
+hasher-requires : tie.Need-hasher-requires Inv-loop μ-loop
+hasher-requires c κs = c .before .before .pre
 
 loop-holds : tie.Need-loop-holds Inv-loop μ-loop
 loop-holds c = (omega arith, omega arith, refl)
@@ -33,7 +36,7 @@ add-i : tie.Need-add-i Inv-loop μ-loop
 add-i c = omega arith
 
 hash-requires : tie.Need-hash-requires Inv-loop μ-loop
-hash-requires c κs = omega arith
+hash-requires c κs = hasher-ready (c .before .before .before .hasher .ensures) (c .before .before .before .before .before .before .pre)
 
 add-many : tie.Need-add-many Inv-loop μ-loop
 add-many c = omega arith
@@ -43,10 +46,10 @@ loop-less c = omega arith
 
 loop-again : tie.Need-loop-again Inv-loop μ-loop
 loop-again c =
-    let a = c .before .before .before .before .before .before .before .args in
+    let a = c .before .before .before .before .before .before .before .before .args in
     let l = c .before .before .before .before .loop in
     let h : l .i < length (a .row .now) = omega arith in
-    let e = filter-on (passes (a .settings) (a .level)) (a .row .now) (l .i) h (passes-on (a .settings) (a .level) _ _ _ (c .before .hash .ensures) (c .before .before .before .before .before .region .ensures) (c .if1 .taken)) in
+    let e = filter-on (passes (c .before .before .before .before .before .hasher .result .settings) (a .level)) (a .row .now) (l .i) h (passes-on (c .before .before .before .before .before .hasher .ensures) (a .level) _ (c .before .before .before .before .before .before .region .ensures) (c .before .hash .ensures) (c .if1 .taken)) in
     (omega arith, omega arith, rw (e, length-more) (omega arith))
 
 loop-less-2 : tie.Need-loop-less-2 Inv-loop μ-loop
@@ -54,18 +57,18 @@ loop-less-2 c = omega arith
 
 loop-again-2 : tie.Need-loop-again-2 Inv-loop μ-loop
 loop-again-2 c =
-    let a = c .before .before .before .before .before .before .before .args in
+    let a = c .before .before .before .before .before .before .before .before .args in
     let l = c .before .before .before .before .loop in
     let h : l .i < length (a .row .now) = omega arith in
-    let e = filter-off (passes (a .settings) (a .level)) (a .row .now) (l .i) h (passes-off (a .settings) (a .level) _ _ _ (c .before .hash .ensures) (c .before .before .before .before .before .region .ensures) (c .if1 .left)) in
+    let e = filter-off (passes (c .before .before .before .before .before .hasher .result .settings) (a .level)) (a .row .now) (l .i) h (passes-off (c .before .before .before .before .before .hasher .ensures) (a .level) _ (c .before .before .before .before .before .before .region .ensures) (c .before .hash .ensures) (c .if1 .left)) in
     (omega arith, omega arith, rw e (l .inv .2))
 
 returns : tie.Need-returns Inv-loop μ-loop
 returns c =
-    let a = c .before .before .before .before .args in
+    let a = c .before .before .before .before .before .args in
     let l = c .before .loop in
     let h : length (a .row .now) ≤ l .i = omega arith in
-    rw (take-all (l .i) (a .row .now) h) at (l .inv .2)
+    rw (take-all (l .i) (a .row .now) h, same-settings (c .before .before .hasher .ensures)) at (l .inv .2)
 
 pub count-passing-spec : {M : Type 1} → statement M
 count-passing-spec =
@@ -74,6 +77,7 @@ count-passing-spec =
     Inv-loop
     μ-loop
     region-requires
+    hasher-requires
     loop-holds
     mul-x
     shared-slice-read-x

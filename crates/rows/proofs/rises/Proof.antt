@@ -1,72 +1,25 @@
 -- `rows::rises` meets its contract. Assumes nothing.
-use Prim.Native.Nat.{_-_, _≤_}
-use mathlib.Core.Path.{_≡_, refl}
-use native.Mathlib.Omega.{arith}
-use lib.ListN.{length, drop, getD}
-use Rattle.rows.specs.Walked.{risesFrom}
-use Rattle.rows.proofs.Walks.{passes-test, rises-on, rises-off, rises-end}
+use mathlib.Core.Bool.{and-true}
+use Rattle.rule.proofs.Facts.{positive}
+use Rattle.rows.specs.Walked.{inOrder}
+use Rattle.rows.proofs.Walks.{all-pass-zero}
+use borrow.Author.Needs.{needs}
 use Rattle.rows.proofs.rises.Statement.{statement}
 use Rattle.rows.proofs.rises.Tie as tie
 
-abbrev Inv-loop : tie.InvT-loop
-Inv-loop settings level row n size low₀ i₀ low i = (i ≤ length row) × (risesFrom settings level low (drop i row) ≡ risesFrom settings level 0 row)
+in-order-requires : tie.Need-in-order-requires
+in-order-requires c κs = search needs
 
-abbrev μ-loop : tie.MeasureT-loop
-μ-loop settings level row n size low₀ i₀ low i = length row - i
-
-region-requires : tie.Need-region-requires Inv-loop μ-loop
-region-requires c κs = omega arith
-
-loop-holds : tie.Need-loop-holds Inv-loop μ-loop
-loop-holds c = (omega arith, refl)
-
-mul-x : tie.Need-mul-x Inv-loop μ-loop
-mul-x c = omega arith
-
-shared-slice-read-x : tie.Need-shared-slice-read-x Inv-loop μ-loop
-shared-slice-read-x c = omega arith
-
-hash-requires : tie.Need-hash-requires Inv-loop μ-loop
-hash-requires c κs = omega arith
-
-returns : tie.Need-returns Inv-loop μ-loop
+returns : tie.Need-returns
 returns c =
-    let a = c .before .before .before .before .before .before .before .args in
-    let l = c .before .before .before .before .loop in
-    let p = passes-test (a .settings) (a .level) (getD (a .row .now) (l .i) 0) _ _ (c .before .hash .ensures) (c .before .before .before .before .before .region .ensures) in
-    rises-off _ _ _ (a .row .now) (l .i) _ (l .inv .1) (omega arith) _ p (c .if1 .taken)
+    let a = c .before .before .before .args in
+    rw (c .if1 .taken, all-pass-zero (a .settings) (positive (a .settings) (c .before .before .before .pre)) (a .row .now), and-true (inOrder (a .settings .n) 0 (a .row .now))) (c .before .in-order .ensures)
 
-add-i : tie.Need-add-i Inv-loop μ-loop
-add-i c = omega arith
+all-pass-requires : tie.Need-all-pass-requires
+all-pass-requires c κs = search needs
 
-loop-less : tie.Need-loop-less Inv-loop μ-loop
-loop-less c = omega arith
-
-loop-again : tie.Need-loop-again Inv-loop μ-loop
-loop-again c =
-    let a = c .before .before .before .before .before .before .before .args in
-    let l = c .before .before .before .before .loop in
-    let p = passes-test (a .settings) (a .level) (getD (a .row .now) (l .i) 0) _ _ (c .before .hash .ensures) (c .before .before .before .before .before .region .ensures) in
-    (omega arith, rises-on _ _ _ (a .row .now) (l .i) _ (l .inv .1) (omega arith) _ p (c .if1 .left))
-
-returns-2 : tie.Need-returns-2 Inv-loop μ-loop
-returns-2 c =
-    let a = c .before .before .before .before .args in
-    rises-end _ _ _ (a .row .now) (c .before .loop .i) _ (c .before .loop .inv .1) (omega arith)
+returns-2 : tie.Need-returns-2
+returns-2 c = rw (c .before .before .in-order .ensures, c .all-pass .ensures)
 
 pub rises-spec : {M : Type 1} → statement M
-rises-spec =
-    tie.close
-    (tie.spec
-    Inv-loop
-    μ-loop
-    region-requires
-    loop-holds
-    mul-x
-    shared-slice-read-x
-    hash-requires
-    returns
-    add-i
-    loop-less
-    loop-again
-    returns-2)
+rises-spec = tie.close (tie.spec in-order-requires returns all-pass-requires returns-2)

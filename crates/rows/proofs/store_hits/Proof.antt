@@ -1,129 +1,97 @@
 -- `rows::store_hits` meets its contract. Assumes nothing.
-use Prim.Native.Nat.{suc, _-_}
+use mathlib.Core.Path.{sym, _∙_}
 use native.Mathlib.Omega.{arith}
-use borrow.Author.Needs.{needs}
 use Rattle.rule.specs.Samples.{nextHit}
 use Rattle.rule.proofs.Rows.{next-some}
-use Rattle.rows.proofs.Hitting.{Hits, hits-start, hits-on, hits-room, hits-end, hits-past, cell-next, nothing-next, never-refused}
+use Rattle.find.proofs.Counting.{count-none}
+use Rattle.rows.proofs.Hitting.{cell-next, nothing-next, never-refused, hits-none, hits-one, hits-from}
+use borrow.Author.Needs.{needs}
 use Rattle.rows.proofs.store_hits.Statement.{statement}
 use Rattle.rows.proofs.store_hits.Tie as tie
 
-abbrev Inv-loop : tie.InvT-loop
-Inv-loop out₀ at settings level lo hi next₀ from₀ out next from = Hits out₀ at settings level lo hi out next from
+returns : tie.Need-returns
+returns c = let start = c .before .before in hits-none _ _ _ _ (count-none _ _ _ _ (sym (start .pre .1) ∙ c .if1 .taken)) _ _
 
-abbrev μ-loop : tie.MeasureT-loop
-μ-loop out₀ at settings level lo hi next₀ from₀ out next from = suc hi - from
+first-in-requires : tie.Need-first-in-requires
+first-in-requires c κs = search needs
 
-loop-holds : tie.Need-loop-holds Inv-loop μ-loop
-loop-holds c = hits-start _ _ _ _ _ _ (c .before .pre .0 .low) (c .before .pre .0 .start)
-
-first-in-requires : tie.Need-first-in-requires Inv-loop μ-loop
-first-in-requires c κs =
-    let w = c .before .before .before .pre .0 in
-    record { good = w .good; low = c .before .loop .inv .low; start = c .before .loop .inv .start; last = w .last }
-
-enum-known-x : tie.Need-enum-known-x Inv-loop μ-loop
+enum-known-x : tie.Need-enum-known-x
 enum-known-x c = search needs
 
-mul-out : tie.Need-mul-out Inv-loop μ-loop
-mul-out c =
-    let first = c .before .before .before in
-    let loop = first .before .before in
-    let a = loop .before .before .args in
-    let e = cell-next (nextHit (a .settings) (a .level) (loop .loop .from) (a .hi)) _ _ (first .first-in .ensures) (c .before .x .given .1) in
-    omega (arith, hits-room _ _ _ _ _ _ (loop .loop .inv) _ e (loop .before .before .pre .1))
+mul-out : tie.Need-mul-out
+mul-out c = search needs
 
-slice-write-out : tie.Need-slice-write-out Inv-loop μ-loop
-slice-write-out c =
-    let first = c .before .before .before in
-    let loop = first .before .before in
-    let a = loop .before .before .args in
-    let e = cell-next (nextHit (a .settings) (a .level) (loop .loop .from) (a .hi)) _ _ (first .first-in .ensures) (c .before .x .given .1) in
-    omega (arith, hits-room _ _ _ _ _ _ (loop .loop .inv) _ e (loop .before .before .pre .1))
+slice-write-out : tie.Need-slice-write-out
+slice-write-out c = search needs
 
-add-next : tie.Need-add-next Inv-loop μ-loop
-add-next c =
-    let first = c .before .before .before in
-    let loop = first .before .before in
-    let a = loop .before .before .args in
-    let e = cell-next (nextHit (a .settings) (a .level) (loop .loop .from) (a .hi)) _ _ (first .first-in .ensures) (c .before .x .given .1) in
-    omega (arith, hits-room _ _ _ _ _ _ (loop .loop .inv) _ e (loop .before .before .pre .1))
+add-result : tie.Need-add-result
+add-result c = search needs
 
-add-from : tie.Need-add-from Inv-loop μ-loop
-add-from c =
-    let first = c .before .before .before in
-    let loop = first .before .before in
-    let a = loop .before .before .args in
-    let e = cell-next (nextHit (a .settings) (a .level) (loop .loop .from) (a .hi)) _ _ (first .first-in .ensures) (c .before .x .given .1) in
-    omega (arith, next-some _ _ _ _ _ e .1, loop .before .before .pre .0 .last, loop .before .before .pre .0 .good .n-high)
+same-length : tie.Need-same-length
+same-length c = search needs
 
-loop-less : tie.Need-loop-less Inv-loop μ-loop
-loop-less c =
-    let first = c .before .before .before in
-    let loop = first .before .before in
-    let a = loop .before .before .args in
-    let e = cell-next (nextHit (a .settings) (a .level) (loop .loop .from) (a .hi)) _ _ (first .first-in .ensures) (c .before .x .given .1) in
-    omega (arith, next-some _ _ _ _ _ e .0, next-some _ _ _ _ _ e .1)
+returns-2 : tie.Need-returns-2
+returns-2 c =
+    let first = c .before .before .before .before in
+    let start = first .before .before .before in
+    let a = start .args in
+    let e = cell-next (nextHit (a .settings) (a .level) (a .lo) (a .hi)) _ _ (first .first-in .ensures) (c .before .before .x .given .1) in
+    hits-one _ _ _ _ _ e (sym (start .pre .1) ∙ c .if2 .taken) _ _ (omega arith)
 
-loop-again : tie.Need-loop-again Inv-loop μ-loop
-loop-again c =
-    let first = c .before .before .before in
-    let loop = first .before .before in
-    let a = loop .before .before .args in
-    let e = cell-next (nextHit (a .settings) (a .level) (loop .loop .from) (a .hi)) _ _ (first .first-in .ensures) (c .before .x .given .1) in
-    hits-on _ _ _ _ _ _ (loop .loop .inv) _ e (loop .before .before .pre .1)
+store-along-requires : tie.Need-store-along-requires
+store-along-requires c κs =
+    let first = c .before .before .before .before .before in
+    let start = first .before .before .before in
+    let a = start .args in
+    let e = cell-next (nextHit (a .settings) (a .level) (a .lo) (a .hi)) _ _ (first .first-in .ensures) (c .before .before .before .x .given .1) in
+    let h = next-some _ _ _ _ _ e in
+    let w = start .pre .0 in
+    (record { good = w .good; low = omega (arith, w .low, h .0); start = omega (arith, h .1); last = w .last }, h .1, h .2, omega (arith, start .pre .1, start .pre .2, hits-from _ _ _ _ _ e .1))
 
-enum-told : tie.Need-enum-told Inv-loop μ-loop
+enum-told : tie.Need-enum-told
 enum-told c = search needs
 
-same-length : tie.Need-same-length Inv-loop μ-loop
-same-length c = omega (arith, c .before .before .before .before .loop .inv .same)
-
-returns : tie.Need-returns Inv-loop μ-loop
-returns c =
-    let first = c .before .before in
-    let loop = first .before .before in
-    hits-end _ _ _ _ _ _ (loop .loop .inv) (nothing-next _ _ (first .first-in .ensures) (c .enum-told .given .1))
-
-enum-told-2 : tie.Need-enum-told-2 Inv-loop μ-loop
+enum-told-2 : tie.Need-enum-told-2
 enum-told-2 c = search needs
 
-same-length-2 : tie.Need-same-length-2 Inv-loop μ-loop
-same-length-2 c = omega (arith, c .before .before .before .before .loop .inv .same)
+same-length-2 : tie.Need-same-length-2
+same-length-2 c = search needs
 
-returns-2 : tie.Need-returns-2 Inv-loop μ-loop
-returns-2 c =
+returns-3 : tie.Need-returns-3
+returns-3 c =
+    let first = c .before .before .before .before .before .before .before .before in
+    let start = first .before .before .before in
+    let a = start .args in
+    let e = cell-next (nextHit (a .settings) (a .level) (a .lo) (a .hi)) _ _ (first .first-in .ensures) (c .before .before .before .before .before .before .x .given .1) in
+    rw (hits-from _ _ _ _ _ e .0) at (c .before .before .store-along .ensures)
+
+returns-4 : tie.Need-returns-4
+returns-4 c =
     let first = c .before .before in
-    let loop = first .before .before in
-    let a = loop .before .before .args in
-    absurd (never-refused (nextHit (a .settings) (a .level) (loop .loop .from) (a .hi)) _ _ (first .first-in .ensures) (c .enum-told2 .given .1))
+    hits-none _ _ _ _ (nothing-next _ _ (first .first-in .ensures) (c .enum-told .given .1)) _ _
 
-same-length-3 : tie.Need-same-length-3 Inv-loop μ-loop
-same-length-3 c = omega (arith, c .before .loop .inv .same)
-
-returns-3 : tie.Need-returns-3 Inv-loop μ-loop
-returns-3 c = hits-past _ _ _ _ _ _ (c .before .loop .inv) (c .loop-test .left)
+returns-5 : tie.Need-returns-5
+returns-5 c =
+    let first = c .before .before in
+    let a = first .before .before .before .args in
+    absurd (never-refused (nextHit (a .settings) (a .level) (a .lo) (a .hi)) _ _ (first .first-in .ensures) (c .enum-told2 .given .1))
 
 pub store-hits-spec : {M : Type 1} → statement M
 store-hits-spec =
     tie.close
     (tie.spec
-    Inv-loop
-    μ-loop
-    loop-holds
+    returns
     first-in-requires
     enum-known-x
     mul-out
     slice-write-out
-    add-next
-    add-from
-    loop-less
-    loop-again
-    enum-told
+    add-result
     same-length
-    returns
+    returns-2
+    store-along-requires
+    enum-told
     enum-told-2
     same-length-2
-    returns-2
-    same-length-3
-    returns-3)
+    returns-3
+    returns-4
+    returns-5)

@@ -9,35 +9,38 @@ use Rattle.rule.specs.Cells.{filter}
 use Rattle.rule.specs.Rule.{passes}
 use Rattle.rule.proofs.Steps.{filter-on, filter-off, filter-room}
 use Rattle.rows.specs.Walked.{Stored}
-use Rattle.rows.proofs.Walks.{passes-on, passes-off}
+use Rattle.rows.proofs.Walks.{same-settings, hasher-ready, passes-on, passes-off}
 use Rattle.rows.proofs.Stores.{stored-none, stored-more}
 use Rattle.rows.proofs.store_passing.Statement.{statement}
 use Rattle.rows.proofs.store_passing.Tie as tie
 
 abbrev Inv-loop : tie.InvT-loop
-Inv-loop out₀ at settings level row size next₀ i₀ out next i = (i ≤ length row) × (length out ≡ length out₀) × Stored out₀ at (filter (passes settings level) (take i row)) next out
+Inv-loop out₀ at level row size hasher next₀ i₀ out next i = (i ≤ length row) × (length out ≡ length out₀) × Stored out₀ at (filter (passes (hasher .settings) level) (take i row)) next out
 
 abbrev μ-loop : tie.MeasureT-loop
-μ-loop out₀ at settings level row size next₀ i₀ out next i = length row - i
+μ-loop out₀ at level row size hasher next₀ i₀ out next i = length row - i
 
 -- a cell that passes, and the room for it
 passed : (c : tie.Then1 Inv-loop μ-loop)
-    → passes (c .before .before .before .before .before .before .before .before .args .settings) (c .before .before .before .before .before .before .before .before .args .level)
-    (getD (c .before .before .before .before .before .before .before .before .args .row .now) (c .before .before .before .before .loop .i) 0) ≡ true
-passed c = passes-on _ _ _ _ _ (c .before .hash .ensures) (c .before .before .before .before .before .region .ensures) (c .if1 .taken)
+    → passes (c .before .before .before .before .before .hasher .result .settings) (c .before .before .before .before .before .before .before .before .before .args .level) (getD (c .before .before .before .before .before .before .before .before .before .args .row .now) (c .before .before .before .before .loop .i) 0) ≡ true
+passed c = passes-on (c .before .before .before .before .before .hasher .ensures) _ _ (c .before .before .before .before .before .before .region .ensures) (c .before .hash .ensures) (c .if1 .taken)
 
-room : (c : tie.Then1 Inv-loop μ-loop) → c .before .before .before .before .loop .next < length (c .before .before .before .before .before .before .before .before .args .out .now)
+room : (c : tie.Then1 Inv-loop μ-loop) → c .before .before .before .before .loop .next < length (c .before .before .before .before .before .before .before .before .before .args .out .now)
 room c =
-    let a = c .before .before .before .before .before .before .before .before .args in
+    let a = c .before .before .before .before .before .before .before .before .before .args in
     let l = c .before .before .before .before .loop in
     let h : l .i < length (a .row .now) = omega arith in
-    omega (arith, filter-room (passes (a .settings) (a .level)) (a .row .now) (l .i) h (passed c))
+    let e = same-settings (c .before .before .before .before .before .hasher .ensures) in
+    omega (arith, rw e at (filter-room (passes (c .before .before .before .before .before .hasher .result .settings) (a .level)) (a .row .now) (l .i) h (passed c)), rw e at (l .inv .2 .next-place))
 
 region-requires : tie.Need-region-requires Inv-loop μ-loop
 region-requires c κs = omega arith
 
+hasher-requires : tie.Need-hasher-requires Inv-loop μ-loop
+hasher-requires c κs = c .before .before .before .pre .0
+
 loop-holds : tie.Need-loop-holds Inv-loop μ-loop
-loop-holds c = (omega arith, refl, stored-none (c .before .before .before .args .out .now) (c .before .before .before .args .at))
+loop-holds c = (omega arith, refl, stored-none (c .before .before .before .before .args .out .now) (c .before .before .before .before .args .at))
 
 mul-x : tie.Need-mul-x Inv-loop μ-loop
 mul-x c = omega arith
@@ -49,7 +52,7 @@ add-i : tie.Need-add-i Inv-loop μ-loop
 add-i c = omega arith
 
 hash-requires : tie.Need-hash-requires Inv-loop μ-loop
-hash-requires c κs = omega arith
+hash-requires c κs = hasher-ready (c .before .before .before .hasher .ensures) (c .before .before .before .before .before .before .before .pre .0)
 
 mul-out : tie.Need-mul-out Inv-loop μ-loop
 mul-out c = let r = room c in omega arith
@@ -65,12 +68,12 @@ loop-less c = omega arith
 
 loop-again : tie.Need-loop-again Inv-loop μ-loop
 loop-again c =
-    let a = c .before .before .before .before .before .before .before .before .args in
+    let a = c .before .before .before .before .before .before .before .before .before .args in
     let l = c .before .before .before .before .loop in
     let h : l .i < length (a .row .now) = omega arith in (
       omega arith,
       simp length-set (l .inv .1),
-      rw (filter-on (passes (a .settings) (a .level)) (a .row .now) (l .i) h (passed c)) (stored-more (l .inv .2) (getD (a .row .now) (l .i) 0) (room c)),
+      rw (filter-on (passes (c .before .before .before .before .before .hasher .result .settings) (a .level)) (a .row .now) (l .i) h (passed c)) (stored-more (l .inv .2) (getD (a .row .now) (l .i) 0) (room c)),
     )
 
 loop-less-2 : tie.Need-loop-less-2 Inv-loop μ-loop
@@ -78,21 +81,21 @@ loop-less-2 c = omega arith
 
 loop-again-2 : tie.Need-loop-again-2 Inv-loop μ-loop
 loop-again-2 c =
-    let a = c .before .before .before .before .before .before .before .before .args in
+    let a = c .before .before .before .before .before .before .before .before .before .args in
     let l = c .before .before .before .before .loop in
     let h : l .i < length (a .row .now) = omega arith in
-    let p = passes-off (a .settings) (a .level) _ _ _ (c .before .hash .ensures) (c .before .before .before .before .before .region .ensures) (c .if1 .left) in
-    (omega arith, l .inv .1, rw (filter-off (passes (a .settings) (a .level)) (a .row .now) (l .i) h p) (l .inv .2))
+    let p = passes-off (c .before .before .before .before .before .hasher .ensures) (a .level) _ (c .before .before .before .before .before .before .region .ensures) (c .before .hash .ensures) (c .if1 .left) in
+    (omega arith, l .inv .1, rw (filter-off (passes (c .before .before .before .before .before .hasher .result .settings) (a .level)) (a .row .now) (l .i) h p) (l .inv .2))
 
 same-length : tie.Need-same-length Inv-loop μ-loop
 same-length c = omega arith
 
 returns : tie.Need-returns Inv-loop μ-loop
 returns c =
-    let a = c .before .before .before .before .before .args in
+    let a = c .before .before .before .before .before .before .args in
     let l = c .before .loop in
     let h : length (a .row .now) ≤ l .i = omega arith in
-    rw (take-all (l .i) (a .row .now) h) at (l .inv .2)
+    rw (take-all (l .i) (a .row .now) h, same-settings (c .before .before .hasher .ensures)) at (l .inv .2)
 
 pub store-passing-spec : {M : Type 1} → statement M
 store-passing-spec =
@@ -101,6 +104,7 @@ store-passing-spec =
     Inv-loop
     μ-loop
     region-requires
+    hasher-requires
     loop-holds
     mul-x
     shared-slice-read-x

@@ -1,14 +1,15 @@
 -- `rows::store_union` meets its contract. Assumes nothing.
-use Prim.Native.Nat.{ℕ, _+_, _-_, _<_}
+use Prim.Native.Nat.{ℕ, _-_, _<_}
 use mathlib.Core.Path.{_≡_, ap, _∙_}
 use mathlib.Core.Logic.{⊎-elim, inl, inr}
 use mathlib.Core.List.{List}
 use native.Mathlib.Omega.{arith}
+use borrow.Author.Needs.{needs}
 use lib.ListN.{length, drop, length-drop}
 use borrow.Author.Tests.{ltb-true, ltb-false}
 use Rattle.rule.proofs.Steps.{part-rest}
 use Rattle.rows.specs.Walked.{Stored}
-use Rattle.rows.proofs.Merges.{Merging, merge-start, merge-on, merge-end, union-lt, union-gt, union-eq}
+use Rattle.rows.proofs.Merges.{Merging, merge-start, merge-on, merge-end}
 use Rattle.rows.proofs.store_union.Statement.{statement}
 use Rattle.rows.proofs.store_union.Tie as tie
 
@@ -16,7 +17,7 @@ abbrev Inv-loop : tie.InvT-loop
 Inv-loop out₀ a b next₀ i₀ j₀ out next i j = Merging out₀ a b out next i j
 
 abbrev μ-loop : tie.MeasureT-loop
-μ-loop out₀ a b next₀ i₀ j₀ out next i j = (length a + length b) - (i + j)
+μ-loop out₀ a b next₀ i₀ j₀ out next i j = length out₀ - next
 
 -- where the loop was left
 abbrev left : tie.After-store Inv-loop μ-loop → tie.At-loop Inv-loop μ-loop
@@ -57,8 +58,8 @@ mul-y c = omega (arith, ltb-true)
 shared-slice-read-y : tie.Need-shared-slice-read-y Inv-loop μ-loop
 shared-slice-read-y c = omega (arith, ltb-true)
 
-add-next : tie.Need-add-next Inv-loop μ-loop
-add-next c = omega arith
+lesser-requires : tie.Need-lesser-requires Inv-loop μ-loop
+lesser-requires c κs = search needs
 
 mul-out : tie.Need-mul-out Inv-loop μ-loop
 mul-out c = omega arith
@@ -66,62 +67,30 @@ mul-out c = omega arith
 slice-write-out : tie.Need-slice-write-out Inv-loop μ-loop
 slice-write-out c = omega arith
 
+add-next : tie.Need-add-next Inv-loop μ-loop
+add-next c = omega arith
+
+step-requires : tie.Need-step-requires Inv-loop μ-loop
+step-requires c κs = search needs
+
 add-i : tie.Need-add-i Inv-loop μ-loop
 add-i c = omega arith
+
+step-requires-2 : tie.Need-step-requires-2 Inv-loop μ-loop
+step-requires-2 c κs = search needs
+
+add-j : tie.Need-add-j Inv-loop μ-loop
+add-j c = omega (arith, ltb-true)
 
 loop-less : tie.Need-loop-less Inv-loop μ-loop
 loop-less c = omega arith
 
 loop-again : tie.Need-loop-again Inv-loop μ-loop
 loop-again c =
-    let w = c .before .before .before .before .before in
-    let l = w .loop in
-    let h : l .i < length (row-a w) = omega arith in
-    let k : l .j < length (row-b w) = ltb-true _ _ (c .before .before .before .if1 .taken) in
-    merge-on (l .inv) _ (l .i + 1) (l .j) (omega arith) (omega arith) (omega arith) (omega arith) (union-lt (row-a w) (row-b w) (l .i) (l .j) h k (c .if2 .taken))
-
-mul-out-2 : tie.Need-mul-out-2 Inv-loop μ-loop
-mul-out-2 c = omega arith
-
-slice-write-out-2 : tie.Need-slice-write-out-2 Inv-loop μ-loop
-slice-write-out-2 c = omega arith
-
-add-j : tie.Need-add-j Inv-loop μ-loop
-add-j c = omega (arith, ltb-true)
-
-loop-less-2 : tie.Need-loop-less-2 Inv-loop μ-loop
-loop-less-2 c = omega arith
-
-loop-again-2 : tie.Need-loop-again-2 Inv-loop μ-loop
-loop-again-2 c =
-    let w = c .before .before .before .before .before .before in
-    let l = w .loop in
-    let h : l .i < length (row-a w) = omega arith in
-    let k : l .j < length (row-b w) = ltb-true _ _ (c .before .before .before .before .if1 .taken) in
-    merge-on (l .inv) _ (l .i) (l .j + 1) (omega arith) (omega arith) (omega arith) (omega arith) (union-gt (row-a w) (row-b w) (l .i) (l .j) h k (c .if3 .taken))
-
-mul-out-3 : tie.Need-mul-out-3 Inv-loop μ-loop
-mul-out-3 c = omega arith
-
-slice-write-out-3 : tie.Need-slice-write-out-3 Inv-loop μ-loop
-slice-write-out-3 c = omega arith
-
-add-i-2 : tie.Need-add-i-2 Inv-loop μ-loop
-add-i-2 c = omega arith
-
-add-j-2 : tie.Need-add-j-2 Inv-loop μ-loop
-add-j-2 c = omega (arith, ltb-true)
-
-loop-less-3 : tie.Need-loop-less-3 Inv-loop μ-loop
-loop-less-3 c = omega arith
-
-loop-again-3 : tie.Need-loop-again-3 Inv-loop μ-loop
-loop-again-3 c =
-    let w = c .before .before .before .before .before .before in
-    let l = w .loop in
-    let h : l .i < length (row-a w) = omega arith in
-    let k : l .j < length (row-b w) = ltb-true _ _ (c .before .before .before .before .if1 .taken) in
-    merge-on (l .inv) _ (l .i + 1) (l .j + 1) (omega arith) (omega arith) (omega arith) (omega arith) (union-eq (row-a w) (row-b w) (l .i) (l .j) h k (c .before .if2 .left) (c .if3 .left))
+    let w = c .before .before .before .before .before .before .before in
+    let h : w .loop .i < length (row-a w) = omega arith in
+    let k : w .loop .j < length (row-b w) = omega (arith, ltb-true) in
+    merge-on (w .loop .inv) h k (omega arith) (record { stores = c .before .before .lesser .ensures; moves-a = c .before .step .ensures; moves-b = c .step2 .ensures })
 
 mul-store : tie.Need-mul-store Inv-loop μ-loop
 mul-store c = omega arith
@@ -184,23 +153,16 @@ store-union-spec =
     shared-slice-read-x
     mul-y
     shared-slice-read-y
-    add-next
+    lesser-requires
     mul-out
     slice-write-out
+    add-next
+    step-requires
     add-i
+    step-requires-2
+    add-j
     loop-less
     loop-again
-    mul-out-2
-    slice-write-out-2
-    add-j
-    loop-less-2
-    loop-again-2
-    mul-out-3
-    slice-write-out-3
-    add-i-2
-    add-j-2
-    loop-less-3
-    loop-again-3
     mul-store
     sub-store
     part-store-start

@@ -1,39 +1,27 @@
--- `rule::Settings::top` meets its contract: p is halved until 1 is left. Assumes nothing.
-use borrow.Author.Needs.{needs}
-use Prim.Native.Nat.{_/_, _^_, _<_}
+-- `rule::Settings::top` meets its contract: the zeros above p's highest set digit and the top make 31. Assumes nothing.
+use Prim.Native.Nat.{suc, _+_, _^_, _<_}
+use mathlib.Core.Path.{_≡_, sym}
 use native.Mathlib.Omega.{arith}
-use lib.Pow.{shr-shr}
-use Rattle.rule.proofs.Passing.{Halving, halving-top}
+use lib.Count.{leadingZeros}
+use borrow.Author.Needs.{needs}
+use Rattle.rule.specs.Rule.{top}
+use Rattle.rule.proofs.Passing.{top-of-none, top-leading}
 use Rattle.rule.proofs.Settings.top.Statement.{statement}
 use Rattle.rule.proofs.Settings.top.Tie as tie
 
-abbrev Inv-loop : tie.InvT-loop
-Inv-loop t₀ q₀ t q = Halving q₀ t q
+returns : tie.Need-returns
+returns c = sym (top-of-none (c .before .args .self) (c .if1 .taken))
 
-abbrev μ-loop : tie.MeasureT-loop
-μ-loop t₀ q₀ t q = q
+zeros : (c : tie.Else1) → leadingZeros 32 (c .before .args .self .p) + suc (top (c .before .args .self)) ≡ 32
+zeros c =
+    let low : c .before .args .self .p < 2 ^ 32 = search needs in
+    top-leading (c .before .args .self) (omega arith) low
 
-loop-holds : tie.Need-loop-holds Inv-loop μ-loop
-loop-holds c = record { halved = omega arith; steps = omega arith; left = λ h. h }
+sub-result : tie.Need-sub-result
+sub-result c = omega (arith, zeros c)
 
-add-t : tie.Need-add-t Inv-loop μ-loop
-add-t c = omega (arith, c .before .loop .inv .steps)
-
-loop-less : tie.Need-loop-less Inv-loop μ-loop
-loop-less c = omega arith
-
-loop-again : tie.Need-loop-again Inv-loop μ-loop
-loop-again c =
-    record {
-      halved = rw (c .before .loop .inv .halved) (shr-shr _ _ 1);
-      steps = omega (arith, c .before .loop .inv .steps);
-      left = λ h. omega arith;
-    }
-
-returns : tie.Need-returns Inv-loop μ-loop
-returns c =
-    let low : c .before .before .args .self .p < 2 ^ 32 = search needs in
-    halving-top (c .before .before .args .self) _ _ low (c .before .loop .inv) (omega arith)
+returns-2 : tie.Need-returns-2
+returns-2 c = omega (arith, zeros c)
 
 pub top-spec : {M : Type 1} → statement M
-top-spec = tie.close (tie.spec Inv-loop μ-loop loop-holds add-t loop-less loop-again returns)
+top-spec = tie.close (tie.spec returns sub-result returns-2)

@@ -1,117 +1,64 @@
 -- `sketch::Sketch::merge_good` meets its contract. Assumes nothing.
-use Prim.Native.Nat.{ℕ}
-use mathlib.Core.Path.{_≡_, sym, ap, _∙_}
-use mathlib.Core.List.{List}
+use Prim.Native.Nat.{_≤_}
+use mathlib.Core.Path.{_≡_, refl, sym, _∙_}
 use native.Mathlib.Omega.{arith}
-use lib.ListN.{length, take}
+use lib.ListN.{length}
 use lib.Seq.{length-take-le}
-use Rattle.rule.specs.Cells.{filter}
-use Rattle.rule.specs.Rows.{union}
-use Rattle.rule.specs.Rule.{passes}
-use Rattle.rows.proofs.Stores.{stored-front}
-use Rattle.sketch.specs.Sketches.{cellsOf}
-use Rattle.sketch.proofs.Settles.{kept-few, both-present, both-merge}
+use Rattle.sketch.specs.declared.Sketch.{Sketch}
+use Rattle.sketch.specs.Sketches.{Sound}
+use Rattle.sketch.proofs.Facts.{count-few}
+use Rattle.sketch.proofs.Handing.{made-merges, made-merge}
 use borrow.Author.Needs.{needs}
 use Rattle.sketch.proofs.Sketch.merge_good.Statement.{statement}
 use Rattle.sketch.proofs.Sketch.merge_good.Tie as tie
 
--- what is stored: the union of the cells of both that pass
-united : (c : tie.After-store-union)
-    → take (c .store-union .result) (c .store-union .last .0)
-    ≡ union
-    (filter (passes (c .before .before .before .before .before .before .before .before .before .before .before .before .args .self .settings) (c .before .before .before .before .before .before .before .before .before .before .higher .result)) (cellsOf (c .before .before .before .before .before .before .before .before .before .before .before .before .args .self)))
-    (filter (passes (c .before .before .before .before .before .before .before .before .before .before .before .before .args .other .settings) (c .before .before .before .before .before .before .before .before .before .before .higher .result)) (cellsOf (c .before .before .before .before .before .before .before .before .before .before .before .before .args .other)))
-united c =
-    let x = stored-front (c .before .before .before .before .before .before .before .before .store-at .ensures) in
-    let y = stored-front (c .before .before .before .before .before .store-at2 .ensures) in
-    stored-front (c .store-union .ensures) .0
-    ∙ ap (λ (l : List ℕ). union l (take (c .before .before .before .before .before .store-at2 .result) (c .before .before .before .before .before .store-at2 .last .1 .1 .0))) (x .0)
-    ∙ ap (union _) (y .0)
+-- the count is within the row
+within : (k : Sketch) → Sound k → length (k .cells) ≡ 504 → k .count ≤ length (k .cells)
+within k w e = omega (arith, count-few k w)
 
-higher-requires : tie.Need-higher-requires
-higher-requires c κs = search needs
+row : (c : tie.After-struct-known) → c .before .before .before .args .self .count ≤ length (c .before .before .before .args .self .cells)
+row c = let w : length (c .before .before .before .args .self .cells) ≡ 504 = search needs in within _ (c .before .before .before .pre .first) w
 
-slice-aggregate-store-at : tie.Need-slice-aggregate-store-at
-slice-aggregate-store-at c = search needs
+other-row : (c : tie.After-struct-known2) → c .before .before .before .before .before .args .other .count ≤ length (c .before .before .before .before .before .args .other .cells)
+other-row c = let w : length (c .before .before .before .before .before .args .other .cells) ≡ 504 = search needs in within _ (c .before .before .before .before .before .pre .second) w
 
-store-at-requires : tie.Need-store-at-requires
-store-at-requires c κs = search needs
+cast-n : tie.Need-cast-n
+cast-n c = search needs
 
-slice-aggregate-store-at-2 : tie.Need-slice-aggregate-store-at-2
-slice-aggregate-store-at-2 c = search needs
+cast-m : tie.Need-cast-m
+cast-m c = search needs
 
-store-at-requires-2 : tie.Need-store-at-requires-2
-store-at-requires-2 c κs = search needs
+slice-aggregate-merge-to : tie.Need-slice-aggregate-merge-to
+slice-aggregate-merge-to c = search needs
 
-slice-aggregate-store-union : tie.Need-slice-aggregate-store-union
-slice-aggregate-store-union c = search needs
+array-share-prefix-cells : tie.Need-array-share-prefix-cells
+array-share-prefix-cells c = row (c .before .before .before)
 
-array-share-prefix-a : tie.Need-array-share-prefix-a
-array-share-prefix-a c = stored-front (c .before .before .before .before .before .store-at .ensures) .1
+slice-aggregate-merge-to-2 : tie.Need-slice-aggregate-merge-to-2
+slice-aggregate-merge-to-2 c = sym (length-take-le _ _ (row (c .before .before .before .before)))
 
-slice-aggregate-store-union-2 : tie.Need-slice-aggregate-store-union-2
-slice-aggregate-store-union-2 c = sym (length-take-le _ _ (stored-front (c .before .before .before .before .before .before .store-at .ensures) .1))
+array-share-prefix-others : tie.Need-array-share-prefix-others
+array-share-prefix-others c = other-row (c .before .before)
 
-array-share-prefix-b : tie.Need-array-share-prefix-b
-array-share-prefix-b c = stored-front (c .before .before .before .store-at2 .ensures) .1
+slice-aggregate-merge-to-3 : tie.Need-slice-aggregate-merge-to-3
+slice-aggregate-merge-to-3 c = sym (length-take-le _ _ (other-row (c .before .before .before)))
 
-slice-aggregate-store-union-3 : tie.Need-slice-aggregate-store-union-3
-slice-aggregate-store-union-3 c = sym (length-take-le _ _ (stored-front (c .before .before .before .before .store-at2 .ensures) .1))
-
-store-union-requires : tie.Need-store-union-requires
-store-union-requires c κs =
-    let start = c .before .before .before .before .before .before .before .before .before .before .before in
-    let l = c .before .before .before .before .before .before .before .before .before .higher .result in
-    let x = stored-front (c .before .before .before .before .before .before .before .store-at .ensures) in
-    let y = stored-front (c .before .before .before .before .store-at2 .ensures) in
-    omega (
-      arith,
-      ap length (x .0),
-      ap length (y .0),
-      kept-few _ (start .pre .first) (passes (start .args .self .settings) l),
-      kept-few _ (start .pre .second) (passes (start .args .other .settings) l),
-    )
-
-array-share-prefix-both : tie.Need-array-share-prefix-both
-array-share-prefix-both c = stored-front (c .before .store-union .ensures) .1
-
-slice-aggregate-settled : tie.Need-slice-aggregate-settled
-slice-aggregate-settled c = sym (length-take-le _ _ (stored-front (c .before .before .store-union .ensures) .1))
-
-slice-aggregate-settled-2 : tie.Need-slice-aggregate-settled-2
-slice-aggregate-settled-2 c = search needs
-
-add-settled : tie.Need-add-settled
-add-settled c = search needs
-
-settled-requires : tie.Need-settled-requires
-settled-requires c κs =
-    let start = c .before .before .before .before .before .before .before .before .before .before .before .before .before .before .before in
-    both-present _ _ (start .pre .same) (start .pre .first) (start .pre .second) _ _ (c .before .before .before .before .before .before .before .before .before .before .before .before .before .higher .ensures) (united (c .before .before .before))
+merge-to-requires : tie.Need-merge-to-requires
+merge-to-requires c κs = (made-merges _ _ (c .before .before .before .before .before .before .before .before .pre), refl)
 
 returns : tie.Need-returns
-returns c =
-    let start = c .before .before .before .before .before .before .before .before .before .before .before .before .before .before .before .before in
-    c .settled .ensures ∙ both-merge _ _ (start .pre .same) (start .pre .first) (start .pre .second) _ _ (c .before .before .before .before .before .before .before .before .before .before .before .before .before .before .higher .ensures) (united (c .before .before .before .before))
+returns c = c .before .merge-to .ensures ∙ made-merge _ _ (c .before .before .before .before .before .before .before .before .before .before .pre)
 
 pub merge-good-spec : {M : Type 1} → statement M
 merge-good-spec =
     tie.close
     (tie.spec
-    higher-requires
-    slice-aggregate-store-at
-    store-at-requires
-    slice-aggregate-store-at-2
-    store-at-requires-2
-    slice-aggregate-store-union
-    array-share-prefix-a
-    slice-aggregate-store-union-2
-    array-share-prefix-b
-    slice-aggregate-store-union-3
-    store-union-requires
-    array-share-prefix-both
-    slice-aggregate-settled
-    slice-aggregate-settled-2
-    add-settled
-    settled-requires
+    cast-n
+    cast-m
+    slice-aggregate-merge-to
+    array-share-prefix-cells
+    slice-aggregate-merge-to-2
+    array-share-prefix-others
+    slice-aggregate-merge-to-3
+    merge-to-requires
     returns)

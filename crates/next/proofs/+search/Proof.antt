@@ -1,0 +1,204 @@
+-- The proof of the cycle of calls {search}. The measure is the modulus p: the call is on the modulus a, which is less. Assumes nothing.
+use Prim.Native.Nat.{ℕ, _+_, _*_, _/_, _<_, _≤_}
+use native.Mathlib.Nat.{div-le-self}
+use native.Mathlib.Omega.{arith}
+use Rattle.next.proofs.Steps.{Moving, moving, still-answer, first-answer, past-answer, up-few, up-hit, up-none, mirrored-few, mirrored-hit, mirrored-none}
+use borrow.Fn.Kinds.{In}
+use borrow.Fn.PlainCycle.{Measures, is, falls, and}
+use Rattle.next.proofs.search.Reads as reads
+use Rattle.next.proofs.search.Kinds as kinds
+use Rattle.next.proofs.+search.Lts-search as lts
+use Rattle.next.proofs.+search.{statement}
+use Rattle.next.proofs.+search.Tie.{close}
+
+abbrev μ-search : Measures 0 kinds.ps ℕ
+μ-search κs a = a .0
+
+abbrev at-modulus : ℕ → In 0 kinds.ps
+at-modulus t = and 0 kinds.ps (is 0 kinds.ps μ-search t) reads.Pre
+
+abbrev below : ℕ → In 0 kinds.ps
+below t = and 0 kinds.ps (falls 0 kinds.ps _<_ μ-search t) reads.Pre
+
+-- what the smaller call asks and gives
+abbrev calls : ℕ → lts.Claims
+calls t = (below t, reads.Post)
+
+-- where the progression moves
+moving-at :
+    (t : ℕ) (c : lts.Else1 (calls t) (at-modulus t) reads.Post) →
+    let a = c .before .args in
+    Moving a.p a.a a.u a.w
+moving-at t c = let a = c .before .args in moving a.p a.a a.u a.l a.w (c .before .pre .1) (omega arith)
+
+returns : (t : ℕ) → lts.Need-returns (calls t) (at-modulus t) reads.Post
+returns t c =
+    let s = c .before in
+    let a = s .args in
+    still-answer a.p a.a a.u a.l a.w a.b (s .pre .1) (c .if1 .taken)
+
+div-q : (t : ℕ) → lts.Need-div-q (calls t) (at-modulus t) reads.Post
+div-q t c = omega arith
+
+rem-r : (t : ℕ) → lts.Need-rem-r (calls t) (at-modulus t) reads.Post
+rem-r t c = omega arith
+
+sub-s : (t : ℕ) → lts.Need-sub-s (calls t) (at-modulus t) reads.Post
+sub-s t c = omega arith
+
+sub-s-2 : (t : ℕ) → lts.Need-sub-s-2 (calls t) (at-modulus t) reads.Post
+sub-s-2 t c = omega arith
+
+add-s : (t : ℕ) → lts.Need-add-s (calls t) (at-modulus t) reads.Post
+add-s t c = omega (arith, moving-at t c)
+
+div-s : (t : ℕ) → lts.Need-div-s (calls t) (at-modulus t) reads.Post
+div-s t c = omega arith
+
+mul-x : (t : ℕ) → lts.Need-mul-x (calls t) (at-modulus t) reads.Post
+mul-x t c = omega (arith, moving-at t c)
+
+returns-2 : (t : ℕ) → lts.Need-returns-2 (calls t) (at-modulus t) reads.Post
+returns-2 t c =
+    let s = c .before .before in
+    let a = s .args in
+    past-answer a.p a.a a.u a.l a.w (s .pre .1) (omega arith) a.b (c .if2 .taken)
+
+mul-f : (t : ℕ) → lts.Need-mul-f (calls t) (at-modulus t) reads.Post
+mul-f t c = omega (arith, moving-at t (c .before))
+
+add-f : (t : ℕ) → lts.Need-add-f (calls t) (at-modulus t) reads.Post
+add-f t c = omega (arith, moving-at t (c .before))
+
+sub-f : (t : ℕ) → lts.Need-sub-f (calls t) (at-modulus t) reads.Post
+sub-f t c = omega (arith, moving-at t (c .before))
+
+returns-3 : (t : ℕ) → lts.Need-returns-3 (calls t) (at-modulus t) reads.Post
+returns-3 t c =
+    let s = c .before .before .before in
+    let a = s .args in
+    first-answer a.p a.a a.u a.l a.w (s .pre .1) (omega arith) a.b (c .if3 .taken)
+
+sub-if4 : (t : ℕ) → lts.Need-sub-if4 (calls t) (at-modulus t) reads.Post
+sub-if4 t c = omega (arith, moving-at t (c .before .before))
+
+sub-search : (t : ℕ) → lts.Need-sub-search (calls t) (at-modulus t) reads.Post
+sub-search t c = omega (arith, moving-at t (c .before .before .before))
+
+add-search : (t : ℕ) → lts.Need-add-search (calls t) (at-modulus t) reads.Post
+add-search t c = omega (arith, moving-at t (c .before .before .before))
+
+sub-search-2 : (t : ℕ) → lts.Need-sub-search-2 (calls t) (at-modulus t) reads.Post
+sub-search-2 t c = omega (arith, moving-at t (c .before .before .before))
+
+mul-search : (t : ℕ) → lts.Need-mul-search (calls t) (at-modulus t) reads.Post
+mul-search t c = omega (arith, moving-at t (c .before .before .before))
+
+sub-search-3 : (t : ℕ) → lts.Need-sub-search-3 (calls t) (at-modulus t) reads.Post
+sub-search-3 t c = omega arith
+
+search-requires : (t : ℕ) → lts.Need-search-requires (calls t) (at-modulus t) reads.Post
+search-requires t c κs =
+    let m = moving-at t (c .before .before .before) in
+    (omega arith, record { small = omega arith; weight = m .inner-weight; step = omega arith; start = omega arith; some = omega arith; above = omega arith })
+
+mirrored-few-at :
+    (t : ℕ) (c : lts.Then5 (calls t) (at-modulus t) reads.Post) →
+    let h = c .before .before .search .result in
+    let a = c .before .before .before .before .before .before .before .args in
+    (h .round ≤ h .index) × (h .index < a.a) × (h .index * (a.p / a.a) ≤ a.p)
+mirrored-few-at t c =
+    let h = c .before .before .search in
+    let s = c .before .before .before .before .before .before .before in
+    let a = s .args in
+    mirrored-few a.p a.a a.u a.l a.w (s .pre .1) (omega arith) (omega arith) a.b (h .result .index) (h .result .round) (h .ensures) (c .if5 .taken)
+
+mul-t24 : (t : ℕ) → lts.Need-mul-t24 (calls t) (at-modulus t) reads.Post
+mul-t24 t c = omega (arith, moving-at t (c .before .before .before .before .before .before .before), mirrored-few-at t (c .before))
+
+add-t25 : (t : ℕ) → lts.Need-add-t25 (calls t) (at-modulus t) reads.Post
+add-t25 t c = omega (arith, moving-at t (c .before .before .before .before .before .before .before), mirrored-few-at t (c .before))
+
+add-t26 : (t : ℕ) → lts.Need-add-t26 (calls t) (at-modulus t) reads.Post
+add-t26 t c = omega (arith, moving-at t (c .before .before .before .before .before .before .before .before), mirrored-few-at t (c .before .before))
+
+sub-t27 : (t : ℕ) → lts.Need-sub-t27 (calls t) (at-modulus t) reads.Post
+sub-t27 t c = omega (arith, moving-at t (c .before .before .before .before .before .before .before .before))
+
+add-t28 : (t : ℕ) → lts.Need-add-t28 (calls t) (at-modulus t) reads.Post
+add-t28 t c = omega (arith, moving-at t (c .before .before .before .before .before .before .before .before .before), mirrored-few-at t (c .before .before .before))
+
+returns-4 : (t : ℕ) → lts.Need-returns-4 (calls t) (at-modulus t) reads.Post
+returns-4 t c =
+    let g = c .before .before .before in
+    let h = g .before .before .search in
+    let s = g .before .before .before .before .before .before .before in
+    let a = s .args in
+    mirrored-hit a.p a.a a.u a.l a.w (s .pre .1) (omega arith) (omega arith) a.b (h .result .index) (h .result .round) (h .ensures) (g .if5 .taken)
+
+sub-search-4 : (t : ℕ) → lts.Need-sub-search-4 (calls t) (at-modulus t) reads.Post
+sub-search-4 t c = omega (arith, moving-at t (c .before .before .before))
+
+mul-search-2 : (t : ℕ) → lts.Need-mul-search-2 (calls t) (at-modulus t) reads.Post
+mul-search-2 t c = omega (arith, moving-at t (c .before .before .before))
+
+sub-search-5 : (t : ℕ) → lts.Need-sub-search-5 (calls t) (at-modulus t) reads.Post
+sub-search-5 t c = omega arith
+
+search-requires-2 : (t : ℕ) → lts.Need-search-requires-2 (calls t) (at-modulus t) reads.Post
+search-requires-2 t c κs =
+    let m = moving-at t (c .before .before .before) in
+    (omega arith, record { small = omega arith; weight = m .inner-weight; step = omega arith; start = omega arith; some = omega arith; above = omega arith })
+
+up-few-at :
+    (t : ℕ) (c : lts.Then6 (calls t) (at-modulus t) reads.Post) →
+    let h = c .before .before .search2 .result in
+    let a = c .before .before .before .before .before .before .before .args in
+    (h .round ≤ h .index) × (h .index < a.a) × (h .index * (a.p / a.a + 1) ≤ 2 * a.p)
+up-few-at t c =
+    let h = c .before .before .search2 in
+    let s = c .before .before .before .before .before .before .before in
+    let a = s .args in
+    up-few a.p a.a a.u a.l a.w (s .pre .1) (omega arith) (omega arith) a.b (h .result .index) (h .result .round) (h .ensures) (c .if6 .taken)
+
+add-t33 : (t : ℕ) → lts.Need-add-t33 (calls t) (at-modulus t) reads.Post
+add-t33 t c = let a = c .before .before .before .before .before .before .before .args in omega (arith, moving-at t (c .before .before .before .before .before .before), div-le-self a.p a.a)
+
+mul-t34 : (t : ℕ) → lts.Need-mul-t34 (calls t) (at-modulus t) reads.Post
+mul-t34 t c = omega (arith, moving-at t (c .before .before .before .before .before .before .before), up-few-at t (c .before))
+
+add-t35 : (t : ℕ) → lts.Need-add-t35 (calls t) (at-modulus t) reads.Post
+add-t35 t c = omega (arith, moving-at t (c .before .before .before .before .before .before .before), up-few-at t (c .before))
+
+sub-t36 : (t : ℕ) → lts.Need-sub-t36 (calls t) (at-modulus t) reads.Post
+sub-t36 t c = omega (arith, moving-at t (c .before .before .before .before .before .before .before .before), up-few-at t (c .before .before))
+
+add-t37 : (t : ℕ) → lts.Need-add-t37 (calls t) (at-modulus t) reads.Post
+add-t37 t c = omega (arith, moving-at t (c .before .before .before .before .before .before .before .before .before), up-few-at t (c .before .before .before))
+
+returns-5 : (t : ℕ) → lts.Need-returns-5 (calls t) (at-modulus t) reads.Post
+returns-5 t c =
+    let g = c .before .before .before in
+    let h = g .before .before .search2 in
+    let s = g .before .before .before .before .before .before .before in
+    let a = s .args in
+    up-hit a.p a.a a.u a.l a.w (s .pre .1) (omega arith) (omega arith) a.b (h .result .index) (h .result .round) (h .ensures) (g .if6 .taken)
+
+returns-6 : (t : ℕ) → lts.Need-returns-6 (calls t) (at-modulus t) reads.Post
+returns-6 t c =
+    let h = c .before .before .search in
+    let s = c .before .before .before .before .before .before .before in
+    let a = s .args in
+    mirrored-none a.p a.a a.u a.l a.w (s .pre .1) (omega arith) (omega arith) a.b (h .result .index) (h .result .round) (h .ensures) (omega arith)
+
+returns-7 : (t : ℕ) → lts.Need-returns-7 (calls t) (at-modulus t) reads.Post
+returns-7 t c =
+    let h = c .before .before .search2 in
+    let s = c .before .before .before .before .before .before .before in
+    let a = s .args in
+    up-none a.p a.a a.u a.l a.w (s .pre .1) (omega arith) (omega arith) a.b (h .result .index) (h .result .round) (h .ensures) (omega arith)
+
+pub +search-spec : {M : Type 1} → statement M
++search-spec =
+    close μ-search
+    (λ t. lts.spec (calls t) (at-modulus t) reads.Post (returns t) (div-q t) (rem-r t) (sub-s t) (sub-s-2 t) (add-s t) (div-s t) (mul-x t) (returns-2 t) (mul-f t) (add-f t) (sub-f t) (returns-3 t) (sub-if4 t) (sub-search t) (add-search t) (sub-search-2 t) (mul-search t) (sub-search-3 t) (search-requires t) (mul-t24 t) (add-t25 t) (add-t26 t) (sub-t27 t) (add-t28 t) (returns-4 t) (sub-search-4 t) (mul-search-2 t) (sub-search-5 t) (search-requires-2 t) (add-t33 t) (mul-t34 t) (add-t35 t) (sub-t36 t) (add-t37 t) (returns-5 t) (returns-6 t) (returns-7 t))
