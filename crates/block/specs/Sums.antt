@@ -1,8 +1,10 @@
 -- The two check sums of a block of 512 bytes. Assumes nothing.
-use Prim.Native.Nat.{ℕ, zero, suc, _+_, _*_, _-_, _%_}
+use Prim.Native.Nat.{ℕ, zero, suc, _+_, _*_, _-_, _%_, _<_}
+use mathlib.Core.Path.{_≡_}
 use mathlib.Core.Bool.{Bool, _&&_}
 use mathlib.Core.List.{List, _++_}
 use lib.Dec.{eqb}
+use lib.ListN.{getD}
 use Rattle.block.specs.Little.{bytesOf, numberAt}
 
 -- word i of 16 bits, from word 1 at bytes 0 and 1
@@ -21,6 +23,10 @@ plainOf s = sumTo (λ i. word s i) 254 % 65535
 -- the sum of (255 - i) · wi, modulo 65535
 unfoldable pub weightedOf : List ℕ → ℕ
 weightedOf s = sumTo (λ i. (255 - i) * word s i) 254 % 65535
+
+-- a row of n numbers that falls by one from n to 1
+abbrev pub Falls : ℕ → List ℕ → Type 0
+Falls n row = (k : ℕ) → k < n → getD row k 0 ≡ n - k
 
 -- bytes 508 and 509 hold the first sum, 510 and 511 the second; a sum is below 65535, so a stored 65535 is wrong
 unfoldable pub blockGood : List ℕ → Bool

@@ -4,7 +4,7 @@ ghost use mathlib.Core.List.{_++_};
 ghost use Prim.Native.Nat.{_+_, _%_, _<_, _≤_};
 ghost use lib.ListN.{length, take, drop};
 ghost use Rattle.block.specs.Little.{bytesOf, numberAt};
-ghost use Rattle.block.specs.Sums.{plainOf, weightedOf, blockGood, sealed};
+ghost use Rattle.block.specs.Sums.{Falls, plainOf, weightedOf, blockGood, sealed};
 
 // The two sums, each below 65535.
 pub struct Sums {
@@ -50,22 +50,34 @@ fn reduced(x: u32) -> u32
     x % 65535
 }
 
+// The weights 254 down to 1. As numbers of 16 bits in a row they let the loop over the words run on
+// whole vectors: the compiler multiplies wider numbers one by one.
+fn weights() -> [u16; 254]
+    ensures { λ r. ⌜ Falls 254 r ⌝ }
+{
+    let mut row = [0u16; 254];
+    let mut i: usize = 0;
+    while i < 254 {
+        row[i] = (254 - i) as u16;
+        i = i + 1;
+    }
+    row
+}
+
 // Both sums fit 32 bits before they are reduced: no turn of the loop divides or branches, and it runs on whole vectors.
-// The weight has 16 bits, as a word has, so that the products are of 16 bits too: those are quicker.
 // Bytes past 508 aren't read, so that a writer can fill the sums in afterwards.
 pub fn sums_of(s: &[u8]) -> Sums
     requires { ⌜ 508 ≤ length (now s) ⌝ }
     ensures { λ r. ⌜ (r .plain ≡ plainOf (now (s .entry))) × (r .weighted ≡ weightedOf (now (s .entry))) ⌝ }
 {
+    let weights = weights();
     let mut plain: u32 = 0;
     let mut weighted: u32 = 0;
-    let mut weight: u16 = 254;
     let mut i: usize = 0;
     while i < 254 {
         let w = word_at(s, 2 * i);
         plain = plain + w;
-        weighted = weighted + widen(weight) * w;
-        weight = weight - 1;
+        weighted = weighted + widen(weights[i]) * w;
         i = i + 1;
     }
     Sums {

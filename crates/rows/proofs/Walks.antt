@@ -2,22 +2,26 @@
 --     same-settings, hasher-ready     the hasher of a walk
 --     passes-test, passes-on, passes-off      a test of the hash
 --     test-on, test-end       the walks of `in_order`, `all_pass` and `zeros`
+--     none-seen      what `zeros` has seen
 --     all-pass-zero      at level 0 every cell passes
 --     Parted, parted-start, parted-up, parted-down, parted-end      the search of `below`
 -- Assumes nothing.
 use Prim.Native.Nat.{ℕ, zero, suc, _+_, _<_, _≤_}
 use mathlib.Core.Path.{_≡_, refl, sym, ap, _∙_}
-use mathlib.Core.Bool.{Bool, true, false, _&&_, and-assoc, and-true}
+use mathlib.Core.Bool.{Bool, true, false, _&&_, and-assoc, and-true, true≢false}
+use mathlib.Core.Logic.{⊎-elim}
 use mathlib.Core.List.{List, [], _∷_}
 use native.Mathlib.Omega.{arith}
-use lib.Dec.{ltb}
+use lib.Bits.{bitOr, or-zero-l, or-add-and, and-le-r}
+use lib.Dec.{ltb, eqb}
 use lib.ListN.{length, drop, getD, drop-of-length-le}
-use borrow.Author.Tests.{lt-ltb, le-ltb}
+use borrow.Author.Tests.{lt-ltb, le-ltb, eqb-true, eq-eqb}
 use Rattle.rule.specs.declared.Settings.{Settings}
 use Rattle.rule.specs.declared.Hasher.{Hasher}
 use Rattle.rule.specs.Cells.{filter}
 use Rattle.rule.specs.Rule.{Good, hash, Ready, hasherOf, region, passes}
 use Rattle.rule.proofs.Facts.{ready}
+use Rattle.rule.proofs.Lists.{tested}
 use Rattle.rule.proofs.Passing.{passes-zero}
 use Rattle.rule.proofs.Steps.{next}
 use Rattle.rows.specs.Walked.{cellsBelow, Ascending, allIn}
@@ -48,6 +52,20 @@ module _ (l : List ℕ) (i : ℕ) (t r : Bool) (f : List ℕ → Bool) (e : (t &
 
   pub test-end : length l ≤ i → f [] ≡ true → t ≡ r
   test-end h q = sym (and-true t) ∙ ap (λ v. t && v) (sym (ap f (drop-of-length-le l {i = i} h) ∙ q)) ∙ e
+
+-- the bits seen so far and those of one more place are none where both are none
+pub none-seen : (s x : ℕ) → eqb (bitOr s x) 0 ≡ (eqb s 0 && eqb x 0)
+none-seen s x =
+    ⊎-elim
+    (λ (z : eqb s 0 ≡ true). ap (λ (v : ℕ). eqb (bitOr v x) 0) (eqb-true s 0 z) ∙ ap (λ (v : ℕ). eqb v 0) (or-zero-l x) ∙ ap (λ (t : Bool). t && eqb x 0) (sym z))
+    (λ (z : eqb s 0 ≡ false).
+    ⊎-elim
+    (λ (o : eqb (bitOr s x) 0 ≡ true).
+    let none : s ≡ 0 = omega (arith, eqb-true (bitOr s x) 0 o, or-add-and s x, and-le-r s x) in
+    absurd (true≢false (sym (eq-eqb s 0 none) ∙ z)))
+    (λ (o : eqb (bitOr s x) 0 ≡ false). o ∙ ap (λ (t : Bool). t && eqb x 0) (sym z))
+    (tested (eqb (bitOr s x) 0)))
+    (tested (eqb s 0))
 
 -- at level 0 every cell passes
 pub all-pass-zero : (s : Settings) → 0 < s .p → (xs : List ℕ) → allIn (passes s 0) xs ≡ true

@@ -64,13 +64,13 @@ fn all_pass(settings: Settings, level: u32, row: &[u32]) -> bool
 pub fn zeros(row: &[u32]) -> bool
     ensures { λ r. ⌜ r ≡ allZero (now (row .entry)) ⌝ }
 {
-    let mut all = true;
+    let mut seen: u32 = 0;
     let mut i: usize = 0;
     while i < row.len() {
-        all = all & (row[i] == 0);
+        seen = seen | row[i];
         i = i + 1;
     }
-    all
+    seen == 0
 }
 
 // How many cells of a rising row are below x, by halving: the cells before `lo` are below x, those

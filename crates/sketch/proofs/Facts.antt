@@ -1,11 +1,12 @@
 -- What a sketch is, as facts and as tests, each from the other. Assumes nothing.
 --     sketch-facts, facts-sketch    `isSketch` and `Sound` say the same
 --     count-is, made-count, count-few    the number of kept cells
---     bad-settings, too-many, all-parts    the tests as `good` makes them
+--     bad-settings, too-many, all-parts    the tests as `is_sketch` makes them
 --     same-facts, facts-same        equal settings
 use Prim.Native.Nat.{ℕ, _+_, _-_, _<_, _≤_}
 use mathlib.Core.Path.{_≡_, refl, sym, ap, _∙_}
 use mathlib.Core.Bool.{Bool, true, false, _&&_, and-eq-true-iff, and-false, and-true}
+use mathlib.Core.Logic.{⊎-elim}
 use mathlib.Core.List.{List, _++_}
 use native.Mathlib.Omega.{arith}
 use lib.Dec.{leb, eqb}
@@ -16,6 +17,7 @@ use Rattle.rule.specs.declared.Settings.{Settings}
 use Rattle.rule.specs.Rule.{isGood, top}
 use Rattle.rule.specs.Rows.{pad, allZero}
 use Rattle.rule.proofs.Facts.{each, good-facts, facts-good}
+use Rattle.rule.proofs.Lists.{tested}
 use Rattle.rule.proofs.Places.{zero-facts, zeros-zero}
 use Rattle.rows.specs.Walked.{risesFrom}
 use Rattle.rows.proofs.Facts.{rises-facts, facts-rises}
@@ -101,20 +103,30 @@ facts-same s = simp (eq-eqb (s .n) (s .n) refl, eq-eqb (s .p) (s .p) refl, eq-eq
 pub count-few : (k : Sketch) → Sound k → k .count ≤ 504
 count-few k w = omega (arith, made-count k (w .made), w .few, w .settings .capacity-high)
 
--- the tests as `good` makes them
+-- the tests as `is_sketch` makes them
 pub bad-settings : (k : Sketch) → isGood (k .settings) ≡ false → false ≡ isSketch k
 unfolding isSketch
 bad-settings k e = rw e
 
-pub too-many : (k : Sketch) → k .settings .capacity < k .count → false ≡ isSketch k
+pub too-many : (k : Sketch) → 504 < k .count → false ≡ isSketch k
 unfolding isSketch
-too-many k h = rw (lt-leb (k .count) (k .settings .capacity) h, and-false, and-false)
+too-many k h =
+    ⊎-elim
+    (λ (g : isGood (k .settings) ≡ true). rw (lt-leb (k .count) (k .settings .capacity) (omega (arith, good-facts (k .settings) g .capacity-high)), and-false, and-false))
+    (λ (g : isGood (k .settings) ≡ false). bad-settings k g)
+    (tested (isGood (k .settings)))
 
-pub all-parts : (k : Sketch) (low rise zero : Bool) → isGood (k .settings) ≡ true → k .count ≤ k .settings .capacity → length (k .cells) ≡ 504
+pub all-parts : (k : Sketch) (low rise zero : Bool) → isGood (k .settings) ≡ true → length (k .cells) ≡ 504
     → low ≡ leb (k .level) (top (k .settings))
     → rise ≡ risesFrom (k .settings) (k .level) 0 (take (k .count) (k .cells))
     → zero ≡ allZero (drop (k .count) (k .cells))
-    → (low && (rise && zero)) ≡ isSketch k
+    → (leb (k .count) (k .settings .capacity) && (low && (rise && zero))) ≡ isSketch k
 unfolding isSketch cellsOf
-all-parts k low rise zero g few len a b c =
-    rw (a, b, c, g, le-leb (k .count) (k .settings .capacity) few, eq-eqb (length (k .cells)) 504 len, and-true)
+all-parts k low rise zero g len a b c =
+    rw (a, b, c, g, eq-eqb (length (k .cells)) 504 len, and-true) (swap (leb (k .count) (k .settings .capacity)) (leb (k .level) (top (k .settings))) _)
+  where
+    swap : (t u v : Bool) → (t && (u && v)) ≡ (u && (t && v))
+    swap true true v = refl
+    swap true false v = refl
+    swap false true v = refl
+    swap false false v = refl

@@ -81,20 +81,22 @@ pub fn same_settings(s: Settings, t: Settings) -> bool
     (s.n == t.n) & ((s.p == t.p) & ((s.a == t.a) & ((s.b == t.b) & (s.capacity == t.capacity))))
 }
 
-// Is it a sketch? Asked of its parts where they stand: the row isn't copied.
+// Is it a sketch? Asked of its parts where they stand: the row isn't copied. The unused places are
+// looked at first, as the processor goes through them while it works on the divisor.
 pub fn is_sketch(settings: Settings, level: u32, count: u32, cells: &[u32]) -> bool
     requires { ⌜ length (now cells) ≡ 504 ⌝ }
     ensures { λ r. ⌜ r ≡ isSketch (held settings level count (now (cells .entry))) ⌝ }
 {
-    if !settings.good() {
-        return false;
-    }
-    if settings.capacity < count {
+    if 504 < count {
         return false;
     }
     let n = count as usize;
-    settings.has_level(level)
-        & (rows::rises(settings, level, &cells[..n]) & rows::zeros(&cells[n..]))
+    let unused = rows::zeros(&cells[n..]);
+    if !settings.good() {
+        return false;
+    }
+    (count <= settings.capacity)
+        & (settings.has_level(level) & (rows::rises(settings, level, &cells[..n]) & unused))
 }
 
 // The number of cells, times 2^level: below 2^53, so the float loses nothing.
