@@ -1,28 +1,33 @@
 -- The laws of the next hit: an answer of crate `next`, for the progression of the hashes from lo on, names the next hit of lo..hi.
 --     next-takes      crate `next` takes that progression
+--     first-cell      at level 0 the first cell is the next hit
 --     hit-passes      element i lies in the region just where the cell lo + i passes
 --     found-at        the least such i gives the next hit lo + i
 --     found-nothing   where there is none, there is no next hit
 --     hit-some, hit-none, hit-within      what an answer says of the next hit, and where that lies
 -- Assumes nothing.
 use mathlib.Core.Path.{_≡_, refl, ap, _∙_}
-use mathlib.Core.Bool.{Bool, true, false}
+use mathlib.Core.Bool.{Bool, true, false, _&&_}
 use mathlib.Core.List.{List, [], _∷_, _++_}
 use mathlib.Core.Option.{Option, some, none}
 use Prim.Native.Nat.{ℕ, suc, _+_, _-_, _*_, _%_, _≤_, _<_}
 use native.Mathlib.Omega.{arith}
-use lib.Dec.{ltb}
+use lib.Dec.{leb, ltb, eqb}
+use borrow.Author.Tests.{leb-true, eqb-true}
 use Rattle.rule.specs.declared.Settings.{Settings}
 use Rattle.rule.specs.Cells.{Cells, keep, filter, run}
-use Rattle.rule.specs.Rule.{region, passes}
+use Rattle.rule.specs.Rule.{Good, region, passes}
 use Rattle.rule.specs.Samples.{nextHit, first}
 use Rattle.rule.specs.Refusals.{answered}
+use Rattle.rule.proofs.Facts.{positive}
+use Rattle.rule.proofs.Passing.{passes-zero}
 use Rattle.rule.proofs.Rows.{next-some}
 use Rattle.rule.proofs.Lists.{filter-none, filter-append, run-append, listed-run}
 use Rattle.next.specs.Hit.{Answer, Takes}
 use Rattle.next.specs.declared.Found.{Found}
 use Rattle.next.specs.declared.Found.the-variants.{At, Nothing}
 use Rattle.next.proofs.Laws.{answer-at, answer-nothing}
+use Rattle.find.proofs.Checks.{and-parts}
 use Rattle.find.proofs.Counting.{hash-step, hash-below}
 use Rattle.find.specs.declared.Hashes.{Hashes}
 use Rattle.find.specs.Finding.{hits, Within, Handed}
@@ -44,6 +49,17 @@ run-first X lo k i h t f =
     ∙ ap first (filter-append X (run lo i) (run (lo + i) (suc (k - suc i))))
     ∙ ap (λ (l : List ℕ). first (l ++ filter X (run (lo + i) (suc (k - suc i))))) (run-none X lo i f)
     ∙ ap (λ (b : Bool). first (keep b (lo + i) (filter X (run (suc (lo + i)) (k - suc i))))) t
+
+-- at level 0 the first cell is the one
+pub first-cell : (s : Settings) (level lo hi : ℕ) → Good s → (eqb level 0 && leb lo hi) ≡ true → nextHit s level lo hi ≡ some lo
+unfolding nextHit
+first-cell s level lo hi g e =
+    let t = and-parts (eqb level 0) (leb lo hi) e in
+    let zero : level ≡ 0 = eqb-true level 0 (t .0) in
+    let cut : suc hi - lo ≡ suc (hi - lo) = omega (arith, leb-true lo hi (t .1)) in
+    ap (λ (m : ℕ). first (filter (passes s m) (run lo (suc hi - lo)))) zero
+    ∙ ap (λ (k : ℕ). first (filter (passes s 0) (run lo k))) cut
+    ∙ ap (λ (b : Bool). first (keep b lo (filter (passes s 0) (run (suc lo) (hi - lo))))) (passes-zero s lo (positive s g))
 
 module _ (s : Settings) (level lo hi : ℕ) (h : Hashes) (f : Handed s level lo hi h) where
   pub next-takes : Within s lo hi → Takes (h .p) (h .a) (h .start) × (h .cells ≤ 4000000000)

@@ -76,6 +76,10 @@ pub fn first_in(settings: Settings, level: u32, lo: u32, hi: u32) -> Found
     requires { ⌜ Within settings lo hi ⌝ }
     ensures { λ r. ⌜ ofFound r ≡ answered (hits (nextHit settings level lo hi)) ⌝ }
 {
+    // At level 0 every cell passes.
+    if (level == 0) & (lo <= hi) {
+        return Found::Cell(lo);
+    }
     let h = progression(settings, level, lo, hi);
     match next::next_hit(h.p, h.a, h.start, h.size, h.cells) {
         next::Found::At(i) => Found::Cell((wide(lo) + i) as u32),
