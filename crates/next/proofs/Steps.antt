@@ -1,5 +1,5 @@
 -- The laws by which the functions' proofs go: the first elements of the rounds, as they are or mirrored, and what the search's answer says of the hits. Assumes nothing.
-use mathlib.Core.Path.{_≡_, ap, _∙_}
+use mathlib.Core.Path.{_≡_, ap, sym, subst, _∙_}
 use Prim.Native.Nat.{ℕ, zero, suc, _+_, _-_, _*_, _/_, _%_, _<_, _≤_}
 use native.Mathlib.Nat.{lt-of-not-le, mul-le-mul-right, mul-le-mul-left, mod-lt, mod-le, mod-eq-of-lt, mul-add-mod-self-right, div-add-mod'}
 use native.Mathlib.Omega.{arith, by-contra}
@@ -35,6 +35,11 @@ few-rounds p a u k i up ap h =
 none-answer : (p a u l w b : ℕ) → ((i k : ℕ) → i * w < b → ¬ HitIn p a u l k i) → Least p a u l w b 0 0
 none-answer p a u l w b none =
     record { hit = λ h. absurd (omega arith); near = λ h. absurd (omega arith); least = λ i k h z. absurd (none i k h z) }
+
+-- an answer in one number
+pub packed-answer : (p a u l w b h index round : ℕ) → (h / 4294967296 ≡ index) × (h % 4294967296 ≡ round) → Least p a u l w b index round → Least p a u l w b (h / 4294967296) (h % 4294967296)
+packed-answer p a u l w b h index round e x =
+    subst (Least p a u l w b (h / 4294967296)) (sym (e .1)) (subst (λ (y : ℕ). Least p a u l w b y round) (sym (e .0)) x)
 
 pub still-answer : (p a u l w b : ℕ) → Searched p a u l w → a ≡ 0 → Least p a u l w b 0 0
 still-answer p a u l w b t e = none-answer p a u l w b none

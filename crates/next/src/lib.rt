@@ -1,7 +1,8 @@
 // The next hit of Xu: the first element of an arithmetic progression that lies below l, taken by the
 // modulus p, in as many calls as Euclid's algorithm has steps. Round k has the elements from k * p to
 // (k + 1) * p, before the modulus is taken.
-ghost use Prim.Native.Nat.{_≤_};
+ghost use mathlib.Core.Path.{_≡_};
+ghost use Prim.Native.Nat.{_/_, _%_, _<_, _≤_};
 ghost use Rattle.next.specs.Hit.{Answer, Takes};
 ghost use Rattle.next.specs.Rounds.{Searched, Least};
 
@@ -11,10 +12,14 @@ pub enum Found {
     Nothing,
 }
 
-// The index of a hit and the round that it lies in. Round 0 says that there is none.
-struct Spot {
-    index: u64,
-    round: u64,
+// The index of a hit and the round that it lies in, in one number, which stays in a register: a struct
+// would go through memory at each call of the search. Round 0 says that there is none.
+fn pack(index: u64, round: u64) -> u64
+    requires { ⌜ index < 4294967296 ⌝ }
+    requires { ⌜ round < 4294967296 ⌝ }
+    ensures { λ h. ⌜ (h / 4294967296 ≡ index) × (h % 4294967296 ≡ round) ⌝ }
+{
+    index * 4294967296 + round
 }
 
 // The least hit, where the first element is none, so that round 0 has none. Where a round has a hit,
@@ -23,12 +28,12 @@ struct Spot {
 // hits. The lesser difference is taken, so that the modulus at least halves from the next call on.
 // Only a hit at an index i with i * w < b is asked for. An element here stands for at least w elements
 // of the first call, so that this cuts the search to that call's n elements without a division.
-fn search(p: u64, a: u64, u: u64, l: u64, w: u64, b: u64) -> Spot
+fn search(p: u64, a: u64, u: u64, l: u64, w: u64, b: u64) -> u64
     requires { ⌜ Searched p a u l w ⌝ }
-    ensures { λ h. ⌜ Least p a u l w b (h .index) (h .round) ⌝ }
+    ensures { λ h. ⌜ Least p a u l w b (h / 4294967296) (h % 4294967296) ⌝ }
 {
     if a == 0 {
-        return Spot { index: 0, round: 0 };
+        return 0;
     }
     // First, as the next call waits for them: one division gives both.
     let q = p / a;
@@ -37,30 +42,28 @@ fn search(p: u64, a: u64, u: u64, l: u64, w: u64, b: u64) -> Spot
     let s = (p - u + (a - 1)) / a;
     let x = s * w;
     if b <= x {
-        return Spot { index: 0, round: 0 };
+        return 0;
     }
     let f = u + s * a - p;
     if f < l {
-        return Spot { index: s, round: 1 };
+        return pack(s, 1);
     }
     if r <= a - r {
         let h = search(a, r, a - f + l - 1, l, w * q, b - x);
-        if 0 < h.round {
-            return Spot {
-                index: s + h.index * q + h.round - 1,
-                round: h.index + 1,
-            };
+        let k = h % 4294967296;
+        if 0 < k {
+            let i = h / 4294967296;
+            return pack(s + i * q + k - 1, i + 1);
         }
     } else {
         let h = search(a, a - r, f, l, w * q, b - x);
-        if 0 < h.round {
-            return Spot {
-                index: s + h.index * (q + 1) - h.round,
-                round: h.index + 1,
-            };
+        let k = h % 4294967296;
+        if 0 < k {
+            let i = h / 4294967296;
+            return pack(s + i * (q + 1) - k, i + 1);
         }
     }
-    Spot { index: 0, round: 0 }
+    0
 }
 
 // The least i below n for which u + i * a, modulo p, lies below l.
@@ -79,12 +82,9 @@ pub fn next_hit(p: u64, a: u64, u: u64, l: u64, n: u64) -> Found
         return Found::At(0);
     }
     let h = search(p, a, u, l, 1, n);
-    if h.round == 0 {
+    if h % 4294967296 == 0 {
         return Found::Nothing;
     }
-    if h.index < n {
-        Found::At(h.index)
-    } else {
-        Found::Nothing
-    }
+    let i = h / 4294967296;
+    if i < n { Found::At(i) } else { Found::Nothing }
 }

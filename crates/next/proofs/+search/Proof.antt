@@ -1,13 +1,15 @@
 -- The proof of the cycle of calls {search}. The measure is the modulus p: the call is on the modulus a, which is less. Assumes nothing.
-use Prim.Native.Nat.{ℕ, _+_, _*_, _/_, _<_, _≤_}
+use Prim.Native.Nat.{ℕ, _+_, _-_, _*_, _/_, _%_, _<_, _≤_}
 use native.Mathlib.Nat.{div-le-self}
 use native.Mathlib.Omega.{arith}
-use Rattle.next.proofs.Steps.{Moving, moving, still-answer, first-answer, past-answer, up-few, up-hit, up-none, mirrored-few, mirrored-hit, mirrored-none}
+use Rattle.next.specs.Rounds.{Least}
+use Rattle.next.proofs.Steps.{first, Moving, moving, still-answer, first-answer, past-answer, packed-answer, up-few, up-hit, up-none, mirrored-few, mirrored-hit, mirrored-none}
 use borrow.Fn.Kinds.{In}
 use borrow.Fn.PlainCycle.{Measures, is, falls, and}
 use Rattle.next.proofs.search.Reads as reads
 use Rattle.next.proofs.search.Kinds as kinds
 use Rattle.next.proofs.+search.Lts-search as lts
+use Rattle.next.proofs.pack.Reads as pack-reads
 use Rattle.next.proofs.+search.{statement}
 use Rattle.next.proofs.+search.Tie.{close}
 
@@ -20,9 +22,9 @@ at-modulus t = and 0 kinds.ps (is 0 kinds.ps μ-search t) reads.Pre
 abbrev below : ℕ → In 0 kinds.ps
 below t = and 0 kinds.ps (falls 0 kinds.ps _<_ μ-search t) reads.Pre
 
--- what the smaller call asks and gives
+-- what the packing and the smaller call ask and give
 abbrev calls : ℕ → lts.Claims
-calls t = (below t, reads.Post)
+calls t = (pack-reads.Asked, pack-reads.Learnt, below t, reads.Post)
 
 -- where the progression moves
 moving-at :
@@ -73,11 +75,14 @@ add-f t c = omega (arith, moving-at t (c .before))
 sub-f : (t : ℕ) → lts.Need-sub-f (calls t) (at-modulus t) reads.Post
 sub-f t c = omega (arith, moving-at t (c .before))
 
+pack-requires : (t : ℕ) → lts.Need-pack-requires (calls t) (at-modulus t) reads.Post
+pack-requires t c κs = (omega (arith, moving-at t (c .before .before)), omega arith)
+
 returns-3 : (t : ℕ) → lts.Need-returns-3 (calls t) (at-modulus t) reads.Post
 returns-3 t c =
-    let s = c .before .before .before in
+    let s = c .before .before .before .before in
     let a = s .args in
-    first-answer a.p a.a a.u a.l a.w (s .pre .1) (omega arith) a.b (c .if3 .taken)
+    packed-answer a.p a.a a.u a.l a.w a.b (c .pack .result) _ _ (c .pack .ensures) (first-answer a.p a.a a.u a.l a.w (s .pre .1) (omega arith) a.b (c .before .if3 .taken))
 
 sub-if4 : (t : ℕ) → lts.Need-sub-if4 (calls t) (at-modulus t) reads.Post
 sub-if4 t c = omega (arith, moving-at t (c .before .before))
@@ -104,37 +109,50 @@ search-requires t c κs =
 
 mirrored-few-at :
     (t : ℕ) (c : lts.Then5 (calls t) (at-modulus t) reads.Post) →
-    let h = c .before .before .search .result in
-    let a = c .before .before .before .before .before .before .before .args in
-    (h .round ≤ h .index) × (h .index < a.a) × (h .index * (a.p / a.a) ≤ a.p)
+    let h = c .before .search .result in
+    let a = c .before .before .before .before .before .before .args in
+    (h % 4294967296 ≤ h / 4294967296) × (h / 4294967296 < a.a) × (h / 4294967296 * (a.p / a.a) ≤ a.p)
 mirrored-few-at t c =
-    let h = c .before .before .search in
-    let s = c .before .before .before .before .before .before .before in
+    let h = c .before .search in
+    let s = c .before .before .before .before .before .before in
     let a = s .args in
-    mirrored-few a.p a.a a.u a.l a.w (s .pre .1) (omega arith) (omega arith) a.b (h .result .index) (h .result .round) (h .ensures) (c .if5 .taken)
+    mirrored-few a.p a.a a.u a.l a.w (s .pre .1) (omega arith) (omega arith) a.b (h .result / 4294967296) (h .result % 4294967296) (h .ensures) (c .if5 .taken)
 
-mul-t24 : (t : ℕ) → lts.Need-mul-t24 (calls t) (at-modulus t) reads.Post
-mul-t24 t c = omega (arith, moving-at t (c .before .before .before .before .before .before .before), mirrored-few-at t (c .before))
+mirrored-hit-at :
+    (t : ℕ) (c : lts.Then5 (calls t) (at-modulus t) reads.Post) →
+    let h = c .before .search .result in
+    let a = c .before .before .before .before .before .before .args in
+    Least a.p a.a a.u a.l a.w a.b (first a.p a.a a.u + h / 4294967296 * (a.p / a.a) + h % 4294967296 - 1) (h / 4294967296 + 1)
+mirrored-hit-at t c =
+    let h = c .before .search in
+    let s = c .before .before .before .before .before .before in
+    let a = s .args in
+    mirrored-hit a.p a.a a.u a.l a.w (s .pre .1) (omega arith) (omega arith) a.b (h .result / 4294967296) (h .result % 4294967296) (h .ensures) (c .if5 .taken)
 
-add-t25 : (t : ℕ) → lts.Need-add-t25 (calls t) (at-modulus t) reads.Post
-add-t25 t c = omega (arith, moving-at t (c .before .before .before .before .before .before .before), mirrored-few-at t (c .before))
+mul-pack : (t : ℕ) → lts.Need-mul-pack (calls t) (at-modulus t) reads.Post
+mul-pack t c = omega (arith, moving-at t (c .before .before .before .before .before), mirrored-few-at t c)
 
-add-t26 : (t : ℕ) → lts.Need-add-t26 (calls t) (at-modulus t) reads.Post
-add-t26 t c = omega (arith, moving-at t (c .before .before .before .before .before .before .before .before), mirrored-few-at t (c .before .before))
+add-pack : (t : ℕ) → lts.Need-add-pack (calls t) (at-modulus t) reads.Post
+add-pack t c = omega (arith, moving-at t (c .before .before .before .before .before), mirrored-few-at t c)
 
-sub-t27 : (t : ℕ) → lts.Need-sub-t27 (calls t) (at-modulus t) reads.Post
-sub-t27 t c = omega (arith, moving-at t (c .before .before .before .before .before .before .before .before))
+add-pack-2 : (t : ℕ) → lts.Need-add-pack-2 (calls t) (at-modulus t) reads.Post
+add-pack-2 t c = omega (arith, moving-at t (c .before .before .before .before .before), mirrored-few-at t c)
 
-add-t28 : (t : ℕ) → lts.Need-add-t28 (calls t) (at-modulus t) reads.Post
-add-t28 t c = omega (arith, moving-at t (c .before .before .before .before .before .before .before .before .before), mirrored-few-at t (c .before .before .before))
+sub-pack : (t : ℕ) → lts.Need-sub-pack (calls t) (at-modulus t) reads.Post
+sub-pack t c = omega (arith, moving-at t (c .before .before .before .before .before))
+
+add-pack-3 : (t : ℕ) → lts.Need-add-pack-3 (calls t) (at-modulus t) reads.Post
+add-pack-3 t c = omega (arith, moving-at t (c .before .before .before .before .before), mirrored-few-at t c)
+
+pack-requires-2 : (t : ℕ) → lts.Need-pack-requires-2 (calls t) (at-modulus t) reads.Post
+pack-requires-2 t c κs =
+    let m = moving-at t (c .before .before .before .before .before) in
+    (omega (arith, mirrored-hit-at t c .near (omega arith)), omega (arith, mirrored-few-at t c))
 
 returns-4 : (t : ℕ) → lts.Need-returns-4 (calls t) (at-modulus t) reads.Post
 returns-4 t c =
-    let g = c .before .before .before in
-    let h = g .before .before .search in
-    let s = g .before .before .before .before .before .before .before in
-    let a = s .args in
-    mirrored-hit a.p a.a a.u a.l a.w (s .pre .1) (omega arith) (omega arith) a.b (h .result .index) (h .result .round) (h .ensures) (g .if5 .taken)
+    let a = c .before .before .before .before .before .before .before .args in
+    packed-answer a.p a.a a.u a.l a.w a.b (c .pack2 .result) _ _ (c .pack2 .ensures) (mirrored-hit-at t (c .before))
 
 sub-search-4 : (t : ℕ) → lts.Need-sub-search-4 (calls t) (at-modulus t) reads.Post
 sub-search-4 t c = omega (arith, moving-at t (c .before .before .before))
@@ -152,53 +170,66 @@ search-requires-2 t c κs =
 
 up-few-at :
     (t : ℕ) (c : lts.Then6 (calls t) (at-modulus t) reads.Post) →
-    let h = c .before .before .search2 .result in
-    let a = c .before .before .before .before .before .before .before .args in
-    (h .round ≤ h .index) × (h .index < a.a) × (h .index * (a.p / a.a + 1) ≤ 2 * a.p)
+    let h = c .before .search2 .result in
+    let a = c .before .before .before .before .before .before .args in
+    (h % 4294967296 ≤ h / 4294967296) × (h / 4294967296 < a.a) × (h / 4294967296 * (a.p / a.a + 1) ≤ 2 * a.p)
 up-few-at t c =
-    let h = c .before .before .search2 in
-    let s = c .before .before .before .before .before .before .before in
+    let h = c .before .search2 in
+    let s = c .before .before .before .before .before .before in
     let a = s .args in
-    up-few a.p a.a a.u a.l a.w (s .pre .1) (omega arith) (omega arith) a.b (h .result .index) (h .result .round) (h .ensures) (c .if6 .taken)
+    up-few a.p a.a a.u a.l a.w (s .pre .1) (omega arith) (omega arith) a.b (h .result / 4294967296) (h .result % 4294967296) (h .ensures) (c .if6 .taken)
 
-add-t33 : (t : ℕ) → lts.Need-add-t33 (calls t) (at-modulus t) reads.Post
-add-t33 t c = let a = c .before .before .before .before .before .before .before .args in omega (arith, moving-at t (c .before .before .before .before .before .before), div-le-self a.p a.a)
+up-hit-at :
+    (t : ℕ) (c : lts.Then6 (calls t) (at-modulus t) reads.Post) →
+    let h = c .before .search2 .result in
+    let a = c .before .before .before .before .before .before .args in
+    Least a.p a.a a.u a.l a.w a.b (first a.p a.a a.u + h / 4294967296 * (a.p / a.a + 1) - h % 4294967296) (h / 4294967296 + 1)
+up-hit-at t c =
+    let h = c .before .search2 in
+    let s = c .before .before .before .before .before .before in
+    let a = s .args in
+    up-hit a.p a.a a.u a.l a.w (s .pre .1) (omega arith) (omega arith) a.b (h .result / 4294967296) (h .result % 4294967296) (h .ensures) (c .if6 .taken)
 
-mul-t34 : (t : ℕ) → lts.Need-mul-t34 (calls t) (at-modulus t) reads.Post
-mul-t34 t c = omega (arith, moving-at t (c .before .before .before .before .before .before .before), up-few-at t (c .before))
+add-pack-4 : (t : ℕ) → lts.Need-add-pack-4 (calls t) (at-modulus t) reads.Post
+add-pack-4 t c = let a = c .before .before .before .before .before .before .args in omega (arith, moving-at t (c .before .before .before .before .before), div-le-self a.p a.a)
 
-add-t35 : (t : ℕ) → lts.Need-add-t35 (calls t) (at-modulus t) reads.Post
-add-t35 t c = omega (arith, moving-at t (c .before .before .before .before .before .before .before), up-few-at t (c .before))
+mul-pack-2 : (t : ℕ) → lts.Need-mul-pack-2 (calls t) (at-modulus t) reads.Post
+mul-pack-2 t c = omega (arith, moving-at t (c .before .before .before .before .before), up-few-at t c)
 
-sub-t36 : (t : ℕ) → lts.Need-sub-t36 (calls t) (at-modulus t) reads.Post
-sub-t36 t c = omega (arith, moving-at t (c .before .before .before .before .before .before .before .before), up-few-at t (c .before .before))
+add-pack-5 : (t : ℕ) → lts.Need-add-pack-5 (calls t) (at-modulus t) reads.Post
+add-pack-5 t c = omega (arith, moving-at t (c .before .before .before .before .before), up-few-at t c)
 
-add-t37 : (t : ℕ) → lts.Need-add-t37 (calls t) (at-modulus t) reads.Post
-add-t37 t c = omega (arith, moving-at t (c .before .before .before .before .before .before .before .before .before), up-few-at t (c .before .before .before))
+sub-pack-2 : (t : ℕ) → lts.Need-sub-pack-2 (calls t) (at-modulus t) reads.Post
+sub-pack-2 t c = omega (arith, moving-at t (c .before .before .before .before .before), up-few-at t c)
+
+add-pack-6 : (t : ℕ) → lts.Need-add-pack-6 (calls t) (at-modulus t) reads.Post
+add-pack-6 t c = omega (arith, moving-at t (c .before .before .before .before .before), up-few-at t c)
+
+pack-requires-3 : (t : ℕ) → lts.Need-pack-requires-3 (calls t) (at-modulus t) reads.Post
+pack-requires-3 t c κs =
+    let m = moving-at t (c .before .before .before .before .before) in
+    (omega (arith, up-hit-at t c .near (omega arith)), omega (arith, up-few-at t c))
 
 returns-5 : (t : ℕ) → lts.Need-returns-5 (calls t) (at-modulus t) reads.Post
 returns-5 t c =
-    let g = c .before .before .before in
-    let h = g .before .before .search2 in
-    let s = g .before .before .before .before .before .before .before in
-    let a = s .args in
-    up-hit a.p a.a a.u a.l a.w (s .pre .1) (omega arith) (omega arith) a.b (h .result .index) (h .result .round) (h .ensures) (g .if6 .taken)
+    let a = c .before .before .before .before .before .before .before .args in
+    packed-answer a.p a.a a.u a.l a.w a.b (c .pack3 .result) _ _ (c .pack3 .ensures) (up-hit-at t (c .before))
 
 returns-6 : (t : ℕ) → lts.Need-returns-6 (calls t) (at-modulus t) reads.Post
 returns-6 t c =
-    let h = c .before .before .search in
-    let s = c .before .before .before .before .before .before .before in
+    let h = c .before .search in
+    let s = c .before .before .before .before .before .before in
     let a = s .args in
-    mirrored-none a.p a.a a.u a.l a.w (s .pre .1) (omega arith) (omega arith) a.b (h .result .index) (h .result .round) (h .ensures) (omega arith)
+    mirrored-none a.p a.a a.u a.l a.w (s .pre .1) (omega arith) (omega arith) a.b (h .result / 4294967296) (h .result % 4294967296) (h .ensures) (omega arith)
 
 returns-7 : (t : ℕ) → lts.Need-returns-7 (calls t) (at-modulus t) reads.Post
 returns-7 t c =
-    let h = c .before .before .search2 in
-    let s = c .before .before .before .before .before .before .before in
+    let h = c .before .search2 in
+    let s = c .before .before .before .before .before .before in
     let a = s .args in
-    up-none a.p a.a a.u a.l a.w (s .pre .1) (omega arith) (omega arith) a.b (h .result .index) (h .result .round) (h .ensures) (omega arith)
+    up-none a.p a.a a.u a.l a.w (s .pre .1) (omega arith) (omega arith) a.b (h .result / 4294967296) (h .result % 4294967296) (h .ensures) (omega arith)
 
 pub +search-spec : {M : Type 1} → statement M
 +search-spec =
     close μ-search
-    (λ t. lts.spec (calls t) (at-modulus t) reads.Post (returns t) (div-q t) (rem-r t) (sub-s t) (sub-s-2 t) (add-s t) (div-s t) (mul-x t) (returns-2 t) (mul-f t) (add-f t) (sub-f t) (returns-3 t) (sub-if4 t) (sub-search t) (add-search t) (sub-search-2 t) (mul-search t) (sub-search-3 t) (search-requires t) (mul-t24 t) (add-t25 t) (add-t26 t) (sub-t27 t) (add-t28 t) (returns-4 t) (sub-search-4 t) (mul-search-2 t) (sub-search-5 t) (search-requires-2 t) (add-t33 t) (mul-t34 t) (add-t35 t) (sub-t36 t) (add-t37 t) (returns-5 t) (returns-6 t) (returns-7 t))
+    (λ t. lts.spec (calls t) (at-modulus t) reads.Post (returns t) (div-q t) (rem-r t) (sub-s t) (sub-s-2 t) (add-s t) (div-s t) (mul-x t) (returns-2 t) (mul-f t) (add-f t) (sub-f t) (pack-requires t) (returns-3 t) (sub-if4 t) (sub-search t) (add-search t) (sub-search-2 t) (mul-search t) (sub-search-3 t) (search-requires t) (mul-pack t) (add-pack t) (add-pack-2 t) (sub-pack t) (add-pack-3 t) (pack-requires-2 t) (returns-4 t) (sub-search-4 t) (mul-search-2 t) (sub-search-5 t) (search-requires-2 t) (add-pack-4 t) (mul-pack-2 t) (add-pack-5 t) (sub-pack-2 t) (add-pack-6 t) (pack-requires-3 t) (returns-5 t) (returns-6 t) (returns-7 t))
