@@ -16,11 +16,11 @@ unfoldable pub sumTo : (ℕ → ℕ) → ℕ → ℕ
 sumTo f zero = 0
 sumTo f (suc k) = sumTo f k + f (suc k)
 
--- the sum of the words w1 .. w254, modulo 65535
+-- the sum of the words w1 .. w254, modulo 65535 (RULES: Image)
 unfoldable pub plainOf : List ℕ → ℕ
 plainOf s = sumTo (λ i. word s i) 254 % 65535
 
--- the sum of (255 - i) · wi, modulo 65535
+-- the sum of (255 - i) · wi, modulo 65535 (RULES: Image)
 unfoldable pub weightedOf : List ℕ → ℕ
 weightedOf s = sumTo (λ i. (255 - i) * word s i) 254 % 65535
 

@@ -3,8 +3,17 @@ ghost use mathlib.Core.Path.{_≡_};
 ghost use mathlib.Core.List.{_++_};
 ghost use Prim.Native.Nat.{_+_, _%_, _<_, _≤_};
 ghost use lib.ListN.{length, take, drop};
-ghost use Rattle.block.specs.Little.{bytesOf, numberAt};
+ghost use Rattle.block.specs.Little.{Bytes, bytesOf, numberAt};
 ghost use Rattle.block.specs.Sums.{Falls, plainOf, weightedOf, blockGood, sealed};
+
+// How many words are summed, modulo what, and where the two sums stand: the plain one follows the words.
+const WORDS: usize = 254;
+
+const MODULUS: u32 = 65535;
+
+const PLAIN: usize = 508;
+
+const WEIGHTED: usize = 510;
 
 // The two sums, each below 65535.
 pub struct Sums {
@@ -27,7 +36,7 @@ fn widen(x: u16) -> u32
 // The word in the two bytes at `at`.
 pub fn word_at(s: &[u8], at: usize) -> u32
     requires { ⌜ at + 2 ≤ length (now s) ⌝ }
-    ensures { λ r. ⌜ (r ≡ numberAt 2 at (now (s .entry))) × (r < 65536) ⌝ }
+    ensures { λ r. ⌜ (r ≡ numberAt 2 at (now (s .entry))) × (r < 65536) × Bytes (now (s .entry)) ⌝ }
 {
     let low = wide(s[at]);
     let high = wide(s[at + 1]);
@@ -47,18 +56,18 @@ pub fn put_word(s: &mut [u8], at: usize, x: u32)
 fn reduced(x: u32) -> u32
     ensures { λ r. ⌜ r ≡ x % 65535 ⌝ }
 {
-    x % 65535
+    x % MODULUS
 }
 
 // The weights 254 down to 1. As numbers of 16 bits in a row they let the loop over the words run on
 // whole vectors: the compiler multiplies wider numbers one by one.
-fn weights() -> [u16; 254]
+fn weights() -> [u16; WORDS]
     ensures { λ r. ⌜ Falls 254 r ⌝ }
 {
-    let mut row = [0u16; 254];
+    let mut row = [0u16; WORDS];
     let mut i: usize = 0;
-    while i < 254 {
-        row[i] = (254 - i) as u16;
+    while i < WORDS {
+        row[i] = (WORDS - i) as u16;
         i = i + 1;
     }
     row
@@ -74,7 +83,7 @@ pub fn sums_of(s: &[u8]) -> Sums
     let mut plain: u32 = 0;
     let mut weighted: u32 = 0;
     let mut i: usize = 0;
-    while i < 254 {
+    while i < WORDS {
         let w = word_at(s, 2 * i);
         plain = plain + w;
         weighted = weighted + widen(weights[i]) * w;
@@ -92,8 +101,8 @@ pub fn good(s: &[u8]) -> bool
     ensures { λ r. ⌜ r ≡ blockGood (now (s .entry)) ⌝ }
 {
     let t = sums_of(s);
-    let plain = word_at(s, 508);
-    let weighted = word_at(s, 510);
+    let plain = word_at(s, PLAIN);
+    let weighted = word_at(s, WEIGHTED);
     (plain == t.plain) & (weighted == t.weighted)
 }
 
@@ -103,6 +112,6 @@ pub fn seal(s: &mut [u8])
     ensures { λ _. ⌜ now (s .exit) ≡ sealed (take 508 (now (s .entry))) ⌝ }
 {
     let t = sums_of(s);
-    put_word(s, 508, t.plain);
-    put_word(s, 510, t.weighted);
+    put_word(s, PLAIN, t.plain);
+    put_word(s, WEIGHTED, t.weighted);
 }

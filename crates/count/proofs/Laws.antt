@@ -9,17 +9,15 @@
 -- Assumes nothing.
 use mathlib.Core.Path.{_≡_, refl, sym, ap, _∙_, subst}
 use mathlib.Core.Bool.{Bool, true, false}
-use mathlib.Core.Logic.{_⊎_, inl, inr, ⊎-elim}
+use mathlib.Core.Logic.{⊎-elim}
 use Prim.Native.Nat.{ℕ, zero, suc, _+_, _-_, _*_, _/_, _%_, _<_, _≤_, min}
-use native.Mathlib.Nat.{lt-of-not-le, add-suc, add-zero, mul-le-mul-right, mod-lt, mod-eq-of-lt, mod-mod, add-mod-right, add-mul-mod-self-right, mul-add-mod-self-right, div-add-mod', div-eq-of-lt, add-div-right, add-mul-div-right, zero-min, mod-add-mod, mul-le-mul-left}
+use native.Mathlib.Nat.{add-suc, add-zero, mul-le-mul-right, mod-lt, mod-eq-of-lt, mod-mod, add-mod-right, add-mul-mod-self-right, mul-add-mod-self-right}
+use native.Mathlib.Nat.{div-add-mod', div-eq-of-lt, add-div-right, add-mul-div-right, zero-min, mod-add-mod, mul-le-mul-left}
 use native.Mathlib.Numerals.{one-add}
-use native.Mathlib.Decide.{decLe}
 use native.Mathlib.Omega.{arith}
 use borrow.Author.Tests.{lt-ltb, le-ltb}
+use Rattle.lists.proofs.Tests.{by-order}
 use Rattle.count.specs.Hits.{hit, hitsUp, hitsDown}
-
-by-order : (a b : ℕ) → (a < b) ⊎ (b ≤ a)
-by-order a b = elim (decLe b a) [ yes h ↦ inr h | no f ↦ inl (lt-of-not-le f) ]
 
 pub hit-yes : (a l : ℕ) → a < l → hit a l ≡ 1
 unfolding hit
@@ -60,8 +58,10 @@ lex d a f q r hf hr = hit-same (a * d + f) (q * d + r) a (q + hit f r) there bac
     there : a * d + f < q * d + r → a < q + hit f r
     there h =
         ⊎-elim
-        (λ lt. ⊎-elim (λ ok. ok) (λ ge. omega (arith, hit-yes f r lt, mul-le-mul-right {m = q + 1} {n = a} d (omega (arith, hit-yes f r lt)))) (by-order a (q + hit f r)))
-        (λ le. ⊎-elim (λ ok. ok) (λ ge. omega (arith, hit-no f r le, mul-le-mul-right {m = q} {n = a} d (omega (arith, hit-no f r le)))) (by-order a (q + hit f r)))
+        (λ lt. ⊎-elim (λ ok. ok) (λ ge. omega (arith, hit-yes f r lt, mul-le-mul-right {m = q + 1} {n = a} d (omega (arith, hit-yes f r lt))))
+        (by-order a (q + hit f r)))
+        (λ le. ⊎-elim (λ ok. ok) (λ ge. omega (arith, hit-no f r le, mul-le-mul-right {m = q} {n = a} d (omega (arith, hit-no f r le))))
+        (by-order a (q + hit f r)))
         (by-order f r)
 
     back : a < q + hit f r → a * d + f < q * d + r
@@ -140,12 +140,14 @@ module _ (m d l f : ℕ) (pos : 0 < d) (dm : d ≤ m) (lm : l ≤ m) (fd : f < d
       omega arith
 
   -- a step into the next round
-  across : (n k x : ℕ) → x < d → f + n * d ≡ k * m + (x + (m - d)) → hitsUp m d f (suc n) l ≡ total m d l f k (x + (m - d)) → hit ((f + suc n * d) % m) l ≡ hit x l
+  across : (n k x : ℕ) → x < d → f + n * d ≡ k * m + (x + (m - d)) → hitsUp m d f (suc n) l ≡ total m d l f k (x + (m - d))
+      → hit ((f + suc n * d) % m) l ≡ hit x l
       → hitsUp m d f (suc (suc n)) l ≡ total m d l f (suc k) x
   unfolding hitsUp total
   across n k x h e ih p =
       let all : upto d l (x + (m - d)) ≡ l / d + hit ((x + (m - d)) % d) (l % d) = upto-all d l (x + (m - d)) pos (omega arith) in
-      let low : hit ((f + k * (d - m % d)) % d) (l % d) ≡ hit ((x + (m - d)) % d) (l % d) = ap (λ (y : ℕ). hit y (l % d)) (foot m d f n k (x + (m - d)) pos e) in
+      let low : hit ((f + k * (d - m % d)) % d) (l % d) ≡ hit ((x + (m - d)) % d) (l % d) = ap (λ (y : ℕ). hit y (l % d))
+      (foot m d f n k (x + (m - d)) pos e) in
       omega (arith, upto-first d l x h)
 
   -- the count from the foot f of the first round on: n + 1 elements, of which the last is x in round k

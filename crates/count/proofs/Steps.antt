@@ -72,8 +72,17 @@ module _ {m d u n l k x : ℕ} {c : Rounds} (r : Reached m d u n l k x c) where
   -- the smaller job is one that the counts take, and its difference is less
   pub smaller : (t : ℕ) → d ≡ t → (c .step < t) × Takes d (c .step) (c .foot) k (c .bound)
   smaller t e =
-      let few : k ≤ n - 1 = few-rounds in
-      (omega arith, record { small = omega arith; half = r .rounds .half; start = omega (arith, mod-lt u (r .moves)); bound = omega (arith, mod-lt l (r .moves)); few = omega arith })
+      let few : k ≤ n - 1 = few-rounds in (
+        omega arith,
+        record {
+          small = omega arith;
+          half = r .rounds .half;
+          start = omega (arith, mod-lt u (r .moves));
+          bound = omega
+              (arith, mod-lt l (r .moves));
+          few = omega arith;
+        },
+      )
 
   -- its count: 0 where there is no round or no foot can be below, and else that of a call
   pub low-none : (low : ℕ) → (eqb k 0 || eqb (c .bound) 0) ≡ true → low ≡ 0 → low ≡ feet m d u k l
@@ -100,5 +109,12 @@ module _ {m d u n l k x : ℕ} {c : Rounds} (r : Reached m d u n l k x c) where
       hits-rounds m d u (n - 1) l k x (r .moves) (omega arith) (r .takes .start) (r .inside) (r .takes .bound) (r .ends) in
       record {
         sum = omega arith;
-        fits = omega (arith, wide (l / d) k (omega (arith, div-le-self l d)) (omega arith), hit-min (x % d) (l % d), div-le-self l d, hits-few d (d - m % d) (u % d) k (l % d));
+        fits = omega (
+          arith,
+          wide (l / d) k (omega (arith, div-le-self l d)) (omega arith),
+          hit-min (x % d) (l % d),
+          div-le-self l d,
+          hits-few d (d - m % d)
+              (u % d) k (l % d),
+        );
       }

@@ -5,7 +5,8 @@ use mathlib.Core.Bool.{true, false}
 use Rattle.count.specs.declared.Rounds.{Rounds}
 use Rattle.count.specs.Hits.{hit}
 
--- c are the rounds of the progression from u up to x, which lies k rounds further on. A whole round has l / d elements below l, and one more where its foot is below l % d
+-- c are the rounds of the progression from u up to x, which lies k rounds further on. A whole round has l / d elements below l, and one more where its foot
+-- is below l % d
 pub record Cut (m d u k x l : ℕ) (c : Rounds) : Type 0 where
   pub foot-is : c .foot ≡ u % d
   pub falls : c .down ≡ true → c .step ≡ m % d

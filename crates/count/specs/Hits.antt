@@ -16,7 +16,8 @@ hitsUp m d u (suc n) l = hitsUp m d u n l + hit ((u + n * d) % m) l
 unfoldable pub hitsDown : ℕ → ℕ → ℕ → ℕ → ℕ → ℕ
 hitsDown m d u n l = hitsUp m (m - d) u n l
 
--- a progression and a bound that the counts take. The difference is at most half of the modulus, and a call's modulus is the caller's difference: so the difference at least halves at each call
+-- a progression and a bound that the counts take. The difference is at most half of the modulus, and a call's modulus is the caller's difference: so the
+-- difference at least halves at each call
 pub record Takes (m d u n l : ℕ) : Type 0 where
   pub small : m ≤ 4000000000
   pub half : 2 * d ≤ m

@@ -1,24 +1,29 @@
 -- Demand 1: every call answers every input; a refusal's number implies its cause, and a cause with no earlier one implies the refusal;
 -- what was given comes back unchanged, opening and reading hand back all zeros, lent memory stays as it was.
---     count-lawful, next-lawful, start-lawful, step-lawful, open-lawful, add-lawful, merge-lawful, write-lawful, read-lawful
---     estimate-refused, estimate-answered    the estimate
+--     count-lawful, next-lawful, start-lawful, step-lawful, open-lawful, add-lawful, merge-lawful, estimate-lawful, write-lawful, read-lawful
+--     numbers         the numbers of the refusals
+--     before-first, first-is-wrong    7 names the first block whose check is wrong
+--     sketch-zeros, walker-zeros      the value of all zeros
 --     hands-back, start-back, step-back, read-zeros, room-back    what comes back with a refusal
 -- Assumes nothing.
-use Prim.Native.Nat.{ℕ}
+use Prim.Native.Nat.{ℕ, _<_}
 use mathlib.Core.Path.{_≡_, refl, sym, ap, _∙_}
 use mathlib.Core.Bool.{Bool, true, false, not, cond}
-use mathlib.Core.Logic.{_⊎_, inl, inr, ⊎-elim}
+use mathlib.Core.Logic.{inl, inr, ⊎-elim}
 use mathlib.Core.List.{List, [], _∷_}
 use native.Mathlib.Omega.{arith}
-use lib.Dec.{ltb, eqb}
-use lib.IntN.{pos}
-use lib.Ieee.{binary64, ofInt}
-use lib.ListN.{length}
+use lib.Dec.{ltb}
+use lib.ListN.{length, replicate}
+use borrow.Author.Tests.{not-false, not-true}
+use Rattle.lists.proofs.Tests.{tested}
+use Rattle.lists.proofs.Searches.{least-least, least-found}
 use Rattle.rule.specs.declared.Settings.{Settings}
 use Rattle.rule.specs.declared.answers.Written.{Written}
-use Rattle.rule.specs.Refusals.{Paper, answered, refused, unless}
+use Rattle.rule.specs.Refusals.{Outcome, Paper, answered, refused, unless, badSettings, badRange, badLevel, notOne, unequal, noRoom, badCheck, badImage}
+use Rattle.rule.specs.Refusals.{badLine}
+use Rattle.rule.specs.Rule.{noSettings}
 use Rattle.rule.specs.Samples.{rangeCount, nextHit}
-use Rattle.rule.proofs.Lists.{tested}
+use Rattle.block.specs.Sums.{blockGood}
 use Rattle.find.specs.declared.Walker.{Walker}
 use Rattle.find.specs.declared.Started.{Started}
 use Rattle.find.specs.declared.Stepped.{Stepped}
@@ -26,68 +31,81 @@ use Rattle.find.specs.Finding.{countOn, nextOn, hits}
 use Rattle.find.specs.Walking.{startOn, stepOn, afterStep, moved, noWalker, Starts, Steps}
 use Rattle.sketch.specs.declared.Sketch.{Sketch}
 use Rattle.sketch.specs.declared.Changed.{Changed}
-use Rattle.sketch.specs.declared.estimates.Estimate.{Estimate}
-use Rattle.sketch.specs.declared.estimates.Estimate.the-variants.{Exact, About, Refused}
-use Rattle.sketch.specs.Sketches.{isSketch}
+use Rattle.sketch.specs.Sketches.{sketchAt}
 use Rattle.sketch.specs.Calls.{openOn, addOn, mergeOn, noSketch, Hands}
-use Rattle.sketch.specs.Estimates.{standsFor, estimateOf, refusalOf, pick, Estimates}
+use Rattle.sketch.specs.Estimates.{weightOf, estimateOn}
 use Rattle.image.specs.declared.Loaded.{Loaded}
 use Rattle.image.specs.Images.{imageOf}
-use Rattle.image.specs.Shapes.{blocksIn, firstWrong}
+use Rattle.image.specs.Shapes.{blockAt, blocksIn, firstWrong}
 use Rattle.image.specs.Calls.{writeOn, readOn, readMarked, Writes, Reads}
-use Rattle.demands.specs.Causes.{Rule, Lawful, countRules, nextRules, stepRules, openRules, addRules, mergeRules, writeRules, readRules}
+use Rattle.demands.specs.Causes.{Rule, Lawful, countRules, nextRules, stepRules, openRules, addRules, mergeRules, estimateRules, writeRules, readRules}
 
 -- the first broken rule refuses
-judged : List Rule → Paper → Paper
-judged [] paper = paper
-judged (r ∷ rs) paper = cond (r .holds) (judged rs paper) (refused (r .number) (r .block))
+judged : {Told : Type 0} → List Rule → Told → Outcome Told
+judged [] told = answered told
+judged (r ∷ rs) told = cond (r .holds) (judged rs told) (refused (r .number) (r .place))
 
-same-paper : (x y : Paper) (rules : List Rule) (values : List ℕ) → x ≡ y → Lawful y rules values → Lawful x rules values
-same-paper x y rules values e w =
-    record {
-      always = ⊎-elim (λ h. inl (h .0, e ∙ h .1)) (λ h. inr (record { number = h .number; block = h .block; cause = h .cause; given = e ∙ h .given })) (w .always);
-      only = λ number block h. w .only number block (sym e ∙ h);
-      first = λ number block h. e ∙ w .first number block h;
-    }
-
-lawful : (rules : List Rule) (values : List ℕ) → Lawful (judged rules (answered values)) rules values
-unfolding judged
-lawful [] values =
-    record {
-      always = inl (tt, refl);
-      only = λ number block h. (let z : _≡_ {A = ℕ} 0 1 = cc in omega arith);
-      first = λ number block h. absurd h;
-    }
-lawful (r ∷ rs) values =
-    let w = lawful rs values in
-    ⊎-elim
-    (λ (e : r .holds ≡ true).
-    let p : judged (r ∷ rs) (answered values) ≡ judged rs (answered values) = cc in
-    record {
-      always =
-          ⊎-elim
-          (λ h. inl ((e, h .0), p ∙ h .1))
-          (λ h. inr (record { number = h .number; block = h .block; cause = inr (e, h .cause); given = p ∙ h .given }))
-          (w .always);
-      only = λ number block h. inr (e, w .only number block (sym p ∙ h));
-      first = λ number block h. ⊎-elim (λ q. (let z : _≡_ {A = Bool} true false = sym e ∙ q .0 in let o : _≡_ {A = ℕ} 0 1 = cc in absurd (omega arith))) (λ q. p ∙ w .first number block (q .1)) h;
-    })
-    (λ (e : r .holds ≡ false).
-    let p : judged (r ∷ rs) (answered values) ≡ refused (r .number) (r .block) = cc in
-    record {
-      always = inr (record { number = r .number; block = r .block; cause = inl (e, refl, refl); given = p });
-      only = λ number block h. (let a : number ≡ r .number = cc in let b : block ≡ r .block = cc in inl (e, a, b));
-      first = λ number block h. ⊎-elim (λ q. p ∙ (let a : number ≡ r .number = q .1 in let b : block ≡ r .block = q .2 in cc)) (λ q. (let o : _≡_ {A = ℕ} 0 1 = cc in absurd (omega arith))) h;
-    })
-    (tested (r .holds))
-
-unless-cond : (t : Bool) (number : ℕ) (x : Paper) → unless t number x ≡ cond t x (refused number 0)
+unless-cond : {Told : Type 0} (t : Bool) (number : ℕ) (x : Outcome Told) → unless t number x ≡ cond t x (refused number 0)
 unless-cond true number x = refl
 unless-cond false number x = refl
 
--- a call whose answer is those rules in order
-by-rules : (paper : Paper) (rules : List Rule) (values : List ℕ) → paper ≡ judged rules (answered values) → Lawful paper rules values
-by-rules paper rules values e = same-paper paper (judged rules (answered values)) rules values e (lawful rules values)
+module _ {Told : Type 0} where
+  same-outcome : (x y : Outcome Told) (rules : List Rule) (told : Told) → x ≡ y → Lawful y rules told → Lawful x rules told
+  same-outcome x y rules told e w =
+      record {
+        always =
+            ⊎-elim
+            (λ h. inl (h .0, e ∙ h .1))
+            (λ h. inr (record { number = h .number; place = h .place; cause = h .cause; given = e ∙ h .given }))
+            (w .always);
+        only = λ number place h. w .only number place (sym e ∙ h);
+        first = λ number place h. e ∙ w .first number place h;
+      }
+
+  lawful : (rules : List Rule) (told : Told) → Lawful (judged rules told) rules told
+  unfolding judged
+  lawful [] told =
+      record {
+        always = inl (tt, refl);
+        only = λ number place h. (let z : _≡_ {A = ℕ} 0 1 = cc in omega arith);
+        first = λ number place h. absurd h;
+      }
+  lawful (r ∷ rs) told =
+      let w = lawful rs told in
+      ⊎-elim
+      (λ (e : r .holds ≡ true).
+      let p : judged (r ∷ rs) told ≡ judged rs told = cc in
+      record {
+        always =
+            ⊎-elim
+            (λ h. inl ((e, h .0), p ∙ h .1))
+            (λ h. inr (record { number = h .number; place = h .place; cause = inr (e, h .cause); given = p ∙ h .given }))
+            (w .always);
+        only = λ number place h. inr (e, w .only number place (sym p ∙ h));
+        first =
+            λ number place h.
+            ⊎-elim
+            (λ q. (let z : _≡_ {A = Bool} true false = sym e ∙ q .0 in let o : _≡_ {A = ℕ} 0 1 = cc in absurd (omega arith)))
+            (λ q. p ∙ w .first number place (q .1))
+            h;
+      })
+      (λ (e : r .holds ≡ false).
+      let p : judged (r ∷ rs) told ≡ refused (r .number) (r .place) = cc in
+      record {
+        always = inr (record { number = r .number; place = r .place; cause = inl (e, refl, refl); given = p });
+        only = λ number place h. (let a : number ≡ r .number = cc in let b : place ≡ r .place = cc in inl (e, a, b));
+        first =
+            λ number place h.
+            ⊎-elim
+            (λ q. p ∙ (let a : number ≡ r .number = q .1 in let b : place ≡ r .place = q .2 in cc))
+            (λ q. (let o : _≡_ {A = ℕ} 0 1 = cc in absurd (omega arith)))
+            h;
+      })
+      (tested (r .holds))
+
+  -- a call whose answer is those rules in order
+  by-rules : (outcome : Outcome Told) (rules : List Rule) (told : Told) → outcome ≡ judged rules told → Lawful outcome rules told
+  by-rules outcome rules told e = same-outcome outcome (judged rules told) rules told e (lawful rules told)
 
 pub count-lawful : (s : Settings) (level lo hi : ℕ) → Lawful (countOn s level lo hi) (countRules s level lo hi) (rangeCount s level lo hi ∷ [])
 unfolding countOn judged
@@ -117,6 +135,10 @@ pub merge-lawful : (j k : Sketch) → Lawful (mergeOn j k) (mergeRules j k) ([])
 unfolding mergeOn judged
 merge-lawful j k = by-rules (mergeOn j k) (mergeRules j k) ([]) (simp unless-cond)
 
+pub estimate-lawful : (k : Sketch) → Lawful (estimateOn k) (estimateRules k) (weightOf k)
+unfolding estimateOn judged
+estimate-lawful k = by-rules (estimateOn k) (estimateRules k) (weightOf k) (simp unless-cond)
+
 pub write-lawful : (k : Sketch) (room : ℕ) → Lawful (writeOn k room) (writeRules k room) (length (imageOf k) ∷ [])
 unfolding writeOn judged
 write-lawful k room = by-rules (writeOn k room) (writeRules k room) (length (imageOf k) ∷ []) (simp unless-cond)
@@ -130,36 +152,50 @@ pub read-lawful : (s : List ℕ) → Lawful (readOn s) (readRules s) []
 unfolding readOn readMarked judged
 read-lawful s = by-rules (readOn s) (readRules s) [] (simp (unless-cond, not-cond (ltb (firstWrong s) (blocksIn s))))
 
--- the estimate: 4 just where it isn't a sketch
-pub estimate-refused : (k : Sketch) (r : Estimate) → Estimates k r → isSketch k ≡ false → r ≡ Refused 4
-unfolding estimateOf
-estimate-refused k r h e = h .is ∙ (rw e)
-
-pub estimate-answered : (k : Sketch) (r : Estimate) → Estimates k r → isSketch k ≡ true → refusalOf r ≡ 0
-unfolding estimateOf
-estimate-answered k r h e =
-    let told : Estimate = pick (eqb (k .level) 0) (Exact (k .count)) (About (ofInt binary64 (pos (standsFor k)))) in
-    ap refusalOf (h .is)
-    ∙ ap (λ (t : Bool). refusalOf (pick t told (Refused 4))) e
-    ∙ by-level (eqb (k .level) 0) (Exact (k .count)) (About (ofInt binary64 (pos (standsFor k)))) refl refl
-  where
-    by-level : (t : Bool) (x y : Estimate) → refusalOf x ≡ 0 → refusalOf y ≡ 0 → refusalOf (pick t x y) ≡ 0
-    by-level true x y a b = a
-    by-level false x y a b = b
-
 -- what comes back with a refusal
-pub hands-back : (paper : Paper) (next old : Sketch) (r : Changed) (number block : ℕ) → Hands paper next old r → paper ≡ refused number block → r .sketch ≡ old
-hands-back paper next old r number block h e = let p = h .sketch in cc
+pub hands-back : (paper : Paper) (next old : Sketch) (r : Changed) (number place : ℕ) → Hands paper next old r → paper ≡ refused number place → r .sketch ≡ old
+hands-back paper next old r number place h e = let p = h .sketch in cc
 
-pub start-back : (s : Settings) (level lo hi : ℕ) (r : Started) (number block : ℕ) → Starts s level lo hi r → startOn s level lo hi ≡ refused number block → r .walker ≡ noWalker
-start-back s level lo hi r number block h e = let p = h .walker in cc
+pub start-back : (s : Settings) (level lo hi : ℕ) (r : Started) (number place : ℕ) → Starts s level lo hi r → startOn s level lo hi ≡ refused number place
+    → r .walker ≡ noWalker
+start-back s level lo hi r number place h e = let p = h .walker in cc
 
-pub step-back : (w : Walker) (r : Stepped) (number block : ℕ) → Steps w r → stepOn w ≡ refused number block → r .walker ≡ w
+pub step-back : (w : Walker) (r : Stepped) (number place : ℕ) → Steps w r → stepOn w ≡ refused number place → r .walker ≡ w
 unfolding afterStep
-step-back w r number block h e = h .walker ∙ ap (λ (q : Paper). moved q w) e
+step-back w r number place h e = h .walker ∙ ap (λ (q : Paper). moved q w) e
 
-pub read-zeros : (s : List ℕ) (r : Loaded) (number block : ℕ) → Reads s r → readOn s ≡ refused number block → r .sketch ≡ noSketch
-read-zeros s r number block h e = let p = h .sketch in cc
+pub read-zeros : (s : List ℕ) (r : Loaded) (number place : ℕ) → Reads s r → readOn s ≡ refused number place → r .sketch ≡ noSketch
+read-zeros s r number place h e = let p = h .sketch in cc
 
-pub room-back : (k : Sketch) (room after : List ℕ) (r : Written) (number block : ℕ) → Writes k room r after → writeOn k (length room) ≡ refused number block → after ≡ room
-room-back k room after r number block h e = let p = h .contents in cc
+pub room-back : (k : Sketch) (room after : List ℕ) (r : Written) (number place : ℕ) → Writes k room r after → writeOn k (length room) ≡ refused number place
+    → after ≡ room
+room-back k room after r number place h e = let p = h .contents in cc
+
+-- the numbers, as they are told to those outside
+pub numbers : (badSettings ∷ badRange ∷ badLevel ∷ notOne ∷ unequal ∷ noRoom ∷ badCheck ∷ badImage ∷ badLine ∷ []) ≡ (1 ∷ 2 ∷ 3 ∷ 4 ∷ 5 ∷ 6 ∷ 7 ∷ 8 ∷ 9 ∷ [])
+numbers = refl
+
+-- 7 names the first wrong block: every block before it is right
+pub before-first : (s : List ℕ) (j : ℕ) → j < firstWrong s → blockGood (blockAt j s) ≡ true
+unfolding firstWrong
+before-first s j h =
+    let q : ℕ → Bool = λ i. not (blockGood (blockAt i s)) in
+    ⊎-elim
+    (λ (t : q j ≡ true). absurd (omega (arith, least-least q (blocksIn s) 0 j (omega arith) t)))
+    (λ (t : q j ≡ false). not-false (blockGood (blockAt j s)) t)
+    (tested (q j))
+
+-- and it is wrong itself
+pub first-is-wrong : (s : List ℕ) → firstWrong s < blocksIn s → blockGood (blockAt (firstWrong s) s) ≡ false
+unfolding firstWrong
+first-is-wrong s h =
+    let q : ℕ → Bool = λ i. not (blockGood (blockAt i s)) in
+    not-true (blockGood (blockAt (firstWrong s) s)) (least-found q (blocksIn s) 0 (omega arith))
+
+-- what a refused opening or reading hands back is zero everywhere
+pub sketch-zeros : noSketch ≡ record { settings = noSettings; level = 0; count = 0; cells = replicate 504 0 }
+unfolding sketchAt
+sketch-zeros = refl
+
+pub walker-zeros : noWalker ≡ record { settings = noSettings; level = 0; at = 0; hi = 0 }
+walker-zeros = refl

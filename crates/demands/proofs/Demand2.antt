@@ -2,6 +2,7 @@
 --     count-is-each-cell      a count equals testing each cell of lo..hi
 --     hit-is-the-first        a hit is the least passing cell from there up to n
 --     none-means-none         none, only where no cell from there up to n passes
+--     rest-stays              what follows the image in the room stays
 --     sketch-round-trip       reading what was written gives the sketch that was written
 --     image-round-trip        an accepted image, written out again, gives the same bytes
 -- Assumes nothing.
@@ -9,19 +10,20 @@ use Prim.Native.Nat.{ℕ, _+_, _≤_, _<_}
 use mathlib.Core.Path.{_≡_, sym, ap, _∙_, subst}
 use mathlib.Core.Bool.{true, false}
 use mathlib.Core.List.{List, [], _∷_}
+use native.Mathlib.Omega.{arith}
 use lib.Dec.{leb}
 use lib.ListN.{length, take, drop}
-use lib.Seq.{take-append-seam}
+use lib.Seq.{take-append-seam, drop-at}
+use Rattle.lists.specs.Lists.{filter, range}
+use Rattle.lists.specs.Rows.{placed}
 use Rattle.rule.specs.declared.Settings.{Settings}
 use Rattle.rule.specs.declared.answers.Counted.the-variants.{Count}
 use Rattle.rule.specs.declared.answers.Found.the-variants.{Cell, Nothing}
 use Rattle.rule.specs.declared.answers.Written.{Written}
-use Rattle.rule.specs.Cells.{filter, range}
 use Rattle.rule.specs.Rule.{passes}
-use Rattle.rule.specs.Rows.{placed}
 use Rattle.rule.specs.Samples.{rangeCount, nextHit}
 use Rattle.rule.specs.Refusals.{Paper, answered, unless, notOne, noRoom, ofCounted, ofFound, ofWritten}
-use Rattle.rule.proofs.Rows.{next-some, next-none}
+use Rattle.rule.proofs.NextHits.{next-some, next-none}
 use Rattle.find.specs.Finding.{countOn, nextOn, isCell, inRange, hits}
 use Rattle.find.proofs.Checks.{unless-told, all-told}
 use Rattle.find.proofs.Hits.{hit-some, hit-none}
@@ -40,7 +42,8 @@ count-is-each-cell s level lo hi v e =
     cc
 
 -- what next hit answered, as the next hit
-found-next : (s : Settings) (level from : ℕ) (values : List ℕ) → answered values ≡ nextOn s level from → answered values ≡ answered (hits (nextHit s level from (s .n)))
+found-next : (s : Settings) (level from : ℕ) (values : List ℕ) → answered values ≡ nextOn s level from
+    → answered values ≡ answered (hits (nextHit s level from (s .n)))
 unfolding nextOn
 found-next s level from values e = sym (all-told s level (isCell s from) (answered (hits (nextHit s level from (s .n)))) values (sym e) .3)
 
@@ -63,10 +66,21 @@ unfolding writeOn
 wrote k room after w n v e =
     let p : writeOn k (length room) ≡ answered (n ∷ []) = sym (v .answer) ∙ e in
     let one = unless-told (isSketch k) notOne (unless (leb (length (imageOf k)) (length room)) noRoom (answered (length (imageOf k) ∷ []))) (n ∷ []) p in
-    let two : answered (length (imageOf k) ∷ []) ≡ answered (n ∷ []) = unless-told (leb (length (imageOf k)) (length room)) noRoom (answered (length (imageOf k) ∷ [])) (n ∷ []) (one .1) .1 in
+    let two : answered (length (imageOf k) ∷ []) ≡ answered (n ∷ []) = unless-told (leb (length (imageOf k)) (length room)) noRoom
+    (answered (length (imageOf k) ∷ [])) (n ∷ []) (one .1) .1 in
     let size : n ≡ length (imageOf k) = cc in
     let bytes : after ≡ placed room 0 (imageOf k) = v .contents ∙ ap (λ (q : Paper). roomAfter q k room) p in
     record { sketch = one .0; size = size; bytes = rw (size, bytes) (take-append-seam (imageOf k) (drop (0 + length (imageOf k)) room)) }
+
+pub rest-stays : (k : Sketch) (room after : List ℕ) (w : Written) (n : ℕ) → Writes k room w after → ofWritten w ≡ answered (n ∷ []) → drop n after ≡ drop n room
+rest-stays k room after w n v e =
+    let t = wrote k room after w n v e in
+    let p : writeOn k (length room) ≡ answered (n ∷ []) = sym (v .answer) ∙ e in
+    let c : after ≡ placed room 0 (imageOf k) = v .contents ∙ ap (λ (q : Paper). roomAfter q k room) p in
+    let z : 0 + length (imageOf k) ≡ n = omega (arith, t .size) in
+    ap (drop n) c
+    ∙ drop-at (imageOf k) (drop (0 + length (imageOf k)) room) n (sym (t .size))
+    ∙ ap (λ (m : ℕ). drop m room) z
 
 pub handed-next : (paper : Paper) (next old k : Sketch) (values : List ℕ) → paper ≡ answered values → k ≡ handed paper next old → k ≡ next
 handed-next paper next old k values e h = cc

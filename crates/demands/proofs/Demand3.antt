@@ -3,7 +3,8 @@
 --     the-sketch      a history's sketch is the sketch of all cells added
 --  1  exact, lowest-is    its level is the lowest at which the passing cells among them fit, and its sample is exactly those
 --     added-in-grid   only cells of 1..n are added
---  2  same-cells, same-image    the same added cells give the same sketch, hence the same image
+--  2  same-cells      the same added cells give the same sketch
+--     image-of-cells, same-image    hence the same image: that of the lowest level and of the sample of those cells, in the bytes of every writer
 --  3  more-cells      more cells: no lower level, and of the smaller set's cells just those of its sample that still pass
 --  4  merge-made, merge-order, merge-grouping, merge-repeat    order, grouping and repeats of merges make no difference
 -- Assumes nothing.
@@ -14,14 +15,16 @@ use mathlib.Core.List.{List, []}
 use Prim.Native.Nat.{ℕ, _≤_}
 use native.Mathlib.Omega.{arith}
 use lib.Dec.{leb}
+use lib.ListN.{length}
 use borrow.Author.Tests.{leb-true}
+use Rattle.lists.specs.Lists.{listed, range}
+use Rattle.lists.proofs.Tests.{tested}
 use Rattle.rule.specs.declared.Settings.{Settings}
-use Rattle.rule.specs.Cells.{Cells, noCells, _∪_, interval, listed, range}
+use Rattle.rule.specs.Cells.{Cells, noCells, _∪_, interval}
 use Rattle.rule.specs.Rule.{Good, isGood, passes}
 use Rattle.rule.specs.Samples.{sample, fits, lowest}
 use Rattle.rule.specs.Refusals.{Paper, answered, refused, badSettings, badRange, ofAnswer}
 use Rattle.rule.proofs.Facts.{good-facts}
-use Rattle.rule.proofs.Lists.{tested}
 use Rattle.rule.proofs.Passing.{passes-lower}
 use Rattle.rule.proofs.Samples.{Inside, lowest-fits, lowest-least, lowest-more, listed-sample}
 use Rattle.find.specs.Finding.{inRange}
@@ -33,21 +36,21 @@ use Rattle.sketch.specs.Calls.{noSketch, openOn, addOn, mergeOn, sameSettings, 
 use Rattle.sketch.proofs.Facts.{facts-sketch, facts-same}
 use Rattle.sketch.proofs.Making.{sketchOf, sound, cells-from, open-law, add-law, merge-law}
 use Rattle.sketch.proofs.Handing.{add-bad, add-in, merge-both}
-use Rattle.image.specs.Images.{imageOf}
-use Rattle.demands.proofs.Demand2.{handed-next, sketch-round-trip}
-use Rattle.demands.specs.Histories.{Made, brings, opening, adding, merging, refusing, reading}
+use Rattle.image.specs.Images.{imageAs, imageOf}
+use Rattle.demands.proofs.Demand2.{wrote, handed-next, sketch-round-trip}
+use Rattle.demands.specs.Histories.{Made, imageFor, HasImage, brings, opening, adding, merging, refusing, reading}
 
 pub made-good : (s : Settings) (X : Cells) (k : Sketch) → Made s X k → Good s
 unfolding openOn
 made-good s X k (opening r h e) = good-facts s (unless-told (isGood s) badSettings (answered []) [] (sym (h .answer) ∙ e) .0)
 made-good s X k (adding {X = Y} {k = j} m lo hi r h) = made-good s Y j m
 made-good s X k (merging {X = Y} {Y = Z} {j = i} {k = j} m n r h) = made-good s Y i m
-made-good s X k (refusing {X = Y} {j = j} m i r h number block e) = made-good s Y j m
+made-good s X k (refusing {X = Y} {j = j} m i r h number place e) = made-good s Y j m
 made-good s X k (reading {X = Y} {k = j} m room after w v n e r h) = made-good s Y j m
 
 -- what is handed back, by the answer
-handed-old : (paper : Paper) (next old k : Sketch) (number block : ℕ) → paper ≡ refused number block → k ≡ handed paper next old → k ≡ old
-handed-old paper next old k number block e h = cc
+handed-old : (paper : Paper) (next old k : Sketch) (number place : ℕ) → paper ≡ refused number place → k ≡ handed paper next old → k ≡ old
+handed-old paper next old k number place e h = cc
 
 module _ (s : Settings) (good : Good s) where
   is-sketch : (X : Cells) → isSketch (sketchOf s X) ≡ true
@@ -90,10 +93,10 @@ module _ (s : Settings) (good : Good s) where
       ∙ merge-law s good X Y 0 0 (omega arith) (omega arith)
       ∙ ap (λ (q : Paper). sketchOf s (X ∪ brings q Y)) (sym p)
 
-  refuses : (X : Cells) (k : Sketch) (r : Changed) → Hands (mergeOn (sketchOf s X) k) (merge (sketchOf s X) k) (sketchOf s X) r → (number block : ℕ)
-      → ofAnswer (r .answer) ≡ refused number block → r .sketch ≡ sketchOf s X
-  refuses X k r h number block e =
-      handed-old (mergeOn (sketchOf s X) k) (merge (sketchOf s X) k) (sketchOf s X) (r .sketch) number block (sym (h .answer) ∙ e) (h .sketch)
+  refuses : (X : Cells) (k : Sketch) (r : Changed) → Hands (mergeOn (sketchOf s X) k) (merge (sketchOf s X) k) (sketchOf s X) r → (number place : ℕ)
+      → ofAnswer (r .answer) ≡ refused number place → r .sketch ≡ sketchOf s X
+  refuses X k r h number place e =
+      handed-old (mergeOn (sketchOf s X) k) (merge (sketchOf s X) k) (sketchOf s X) (r .sketch) number place (sym (h .answer) ∙ e) (h .sketch)
 
   pub the-sketch : (X : Cells) (k : Sketch) → Made s X k → k ≡ sketchOf s X
   the-sketch X k (opening r h e) = opens r h e
@@ -108,8 +111,8 @@ module _ (s : Settings) (good : Good s) where
       merges Y Z r (subst (λ (v : Sketch). Hands (mergeOn (sketchOf s Y) v) (merge (sketchOf s Y) v) (sketchOf s Y) r) b both)
       ∙ ap (λ (v : Sketch). sketchOf s (Y ∪ brings (mergeOn v (sketchOf s Z)) Z)) (sym a)
       ∙ ap (λ (v : Sketch). sketchOf s (Y ∪ brings (mergeOn i v) Z)) (sym b)
-  the-sketch X k (refusing {X = Y} {j = j} m i r h number block e) =
-      refuses Y i r (subst (λ (v : Sketch). Hands (mergeOn v i) (merge v i) v r) (the-sketch Y j m) h) number block e
+  the-sketch X k (refusing {X = Y} {j = j} m i r h number place e) =
+      refuses Y i r (subst (λ (v : Sketch). Hands (mergeOn v i) (merge v i) v r) (the-sketch Y j m) h) number place e
   the-sketch X k (reading {X = Y} {k = j} m room after w v n e r h) =
       let ih : j ≡ sketchOf s Y = the-sketch Y j m in
       sketch-round-trip j room after w n v e r h .1 ∙ ih
@@ -121,7 +124,7 @@ or-cases false u e = inr e
 
 brought : (paper : Paper) (X : Cells) (x : ℕ) → brings paper X x ≡ true → X x ≡ true
 brought (answered values) X x e = e
-brought (refused number block) X x e = absurd (false≢true e)
+brought (refused number place) X x e = absurd (false≢true e)
 
 in-range : (k : Sketch) (lo hi x : ℕ) → isSketch k ≡ true → brings (addOn k lo hi) (interval lo hi) x ≡ true → inRange (k .settings) lo hi ≡ true
 in-range k lo hi x g e =
@@ -139,7 +142,11 @@ sketch-more : (s : Settings) → Good s → (X Y : Cells) → Inside X Y
     → (sketchOf s X .level ≤ sketchOf s Y .level)
     × ((x : ℕ) → X x ≡ true → listed (cellsOf (sketchOf s Y)) x ≡ (listed (cellsOf (sketchOf s X)) x && passes s (sketchOf s Y .level) x))
 unfolding sketchFrom sketchAt
-sketch-more s g X Y h = (m, λ x e. ap (λ (c : List ℕ). listed c x) (cells-from s Y 0) ∙ cells x e ∙ ap (λ (c : List ℕ). listed c x && passes s j x) (sym (cells-from s X 0)))
+sketch-more s g X Y h = (
+  m,
+  λ x e. ap (λ (c : List ℕ). listed c x) (cells-from s Y 0) ∙ cells x e
+      ∙ ap (λ (c : List ℕ). listed c x && passes s j x) (sym (cells-from s X 0)),
+)
   where
     i : ℕ
     i = lowest s X 0
@@ -188,7 +195,7 @@ added-in-grid s X k (adding {X = Y} {k = j} a lo hi r h) x m =
     (or-cases (Y x) (brings (addOn j lo hi) (interval lo hi) x) m)
 added-in-grid s X k (merging {X = Y} {Y = Z} {j = i} {k = j} a b r h) x m =
     ⊎-elim (λ w. added-in-grid s Y i a x w) (λ w. added-in-grid s Z j b x (brought (mergeOn i j) Z x w)) (or-cases (Y x) (brings (mergeOn i j) Z x) m)
-added-in-grid s X k (refusing {X = Y} {j = j} a i r h number block e) x m = added-in-grid s Y j a x m
+added-in-grid s X k (refusing {X = Y} {j = j} a i r h number place e) x m = added-in-grid s Y j a x m
 added-in-grid s X k (reading {X = Y} {k = j} a room after w v n e r h) x m = added-in-grid s Y j a x m
 
 -- 2
@@ -197,8 +204,23 @@ same-cells s X Y j k a b h =
     let g = made-good s X j a in
     the-sketch s g X j a ∙ ap (sketchOf s) (fun-ext h) ∙ sym (the-sketch s g Y k b)
 
-pub same-image : (s : Settings) (X Y : Cells) (j k : Sketch) → Made s X j → Made s Y k → ((x : ℕ) → X x ≡ Y x) → imageOf j ≡ imageOf k
-same-image s X Y j k a b h = ap imageOf (same-cells s X Y j k a b h)
+parts-image : (k : Sketch) {t : Settings} {level : ℕ} {xs : List ℕ} → k .settings ≡ t → k .level ≡ level → cellsOf k ≡ xs → imageOf k ≡ imageAs t level xs
+unfolding imageOf
+parts-image k e f g = cc
+
+pub image-of-cells : (s : Settings) (X : Cells) (k : Sketch) → Made s X k → HasImage s X k
+image-of-cells s X k h =
+    let e = exact s X k h in
+    let i : imageOf k ≡ imageFor s X = parts-image k (e .0) (e .1) (e .2) in
+    record {
+      image = i;
+      written = λ room after w n v a. (let t = wrote k room after w n v a in (t .size ∙ ap length i, t .bytes ∙ i));
+    }
+
+pub same-image : (s : Settings) (X Y : Cells) (j k : Sketch) → Made s X j → Made s Y k → ((x : ℕ) → X x ≡ Y x) → HasImage s X j × HasImage s X k
+same-image s X Y j k a b h =
+    let i = image-of-cells s X j a in
+    (i, subst (HasImage s X) (same-cells s X Y j k a b h) i)
 
 -- 3
 pub more-cells : (s : Settings) (X Y : Cells) (j k : Sketch) → Made s X j → Made s Y k → Inside X Y
@@ -208,7 +230,8 @@ more-cells s X Y j k a b h =
     rw (the-sketch s g X j a, the-sketch s g Y k b) (sketch-more s g X Y h)
 
 -- 4: a merge of two histories is never refused, and is a history of the cells of both
-pub merge-made : (s : Settings) {X Y : Cells} {j k : Sketch} → Made s X j → Made s Y k → (r : Changed) → Hands (mergeOn j k) (merge j k) j r → Made s (X ∪ Y) (r .sketch)
+pub merge-made : (s : Settings) {X Y : Cells} {j k : Sketch} → Made s X j → Made s Y k → (r : Changed) → Hands (mergeOn j k) (merge j k) j r
+    → Made s (X ∪ Y) (r .sketch)
 merge-made s {X} {Y} {j} {k} a b r h =
     let g = made-good s X j a in
     let ea : j ≡ sketchOf s X = the-sketch s g X j a in

@@ -9,30 +9,30 @@ use lib.Dec.{leb, ltb}
 use lib.ListN.{length}
 use Rattle.rule.specs.declared.Settings.{Settings}
 use Rattle.rule.specs.Rule.{isGood, top}
-use Rattle.rule.specs.Refusals.{Paper, answered, refused, badSettings, badRange, badLevel, notOne, unequal, noRoom, badCheck, badImage}
+use Rattle.rule.specs.Refusals.{Outcome, answered, refused, badSettings, badRange, badLevel, notOne, unequal, noRoom, badCheck, badImage}
 use Rattle.find.specs.declared.Walker.{Walker}
 use Rattle.find.specs.Finding.{isCell, inRange}
 use Rattle.find.specs.Walking.{isWalker}
 use Rattle.sketch.specs.declared.Sketch.{Sketch}
 use Rattle.sketch.specs.Sketches.{isSketch}
 use Rattle.sketch.specs.Calls.{sameSettings}
-use Rattle.image.specs.Images.{imageOf, settingsIn}
+use Rattle.image.specs.Images.{imageOf, saidSettings}
 use Rattle.image.specs.Shapes.{blocksIn, firstWrong}
 use Rattle.image.specs.Calls.{rightLength, marked, isImage}
 
--- what must hold, and the refusal where it doesn't: its number and 7's block, which is zero elsewhere
+-- what must hold, and the refusal where it doesn't: its number and its place: the block for 7, zero elsewhere
 pub record Rule : Type 0 where
   pub holds : Bool
   pub number : ℕ
-  pub block : ℕ
+  pub place : ℕ
 
 abbrev pub rule : Bool → ℕ → Rule
-rule holds number = record { holds = holds; number = number; block = 0 }
+rule holds number = record { holds = holds; number = number; place = 0 }
 
--- the first of the rules that is broken has this number and block
+-- the first of the rules that is broken has this number and place
 abbrev pub Cause : List Rule → ℕ → ℕ → Type 0
-Cause [] number block = ⊥
-Cause (r ∷ rs) number block = ((r .holds ≡ false) × (number ≡ r .number) × (block ≡ r .block)) ⊎ ((r .holds ≡ true) × Cause rs number block)
+Cause [] number place = ⊥
+Cause (r ∷ rs) number place = ((r .holds ≡ false) × (number ≡ r .number) × (place ≡ r .place)) ⊎ ((r .holds ≡ true) × Cause rs number place)
 
 -- all rules are kept
 abbrev pub Kept : List Rule → Type 0
@@ -40,22 +40,22 @@ Kept [] = Unit {0}
 Kept (r ∷ rs) = (r .holds ≡ true) × Kept rs
 
 -- a refusal for a cause
-pub record Refusal (paper : Paper) (rules : List Rule) : Type 0 where
+pub record Refusal {Told : Type 0} (outcome : Outcome Told) (rules : List Rule) : Type 0 where
   pub number : ℕ
-  pub block : ℕ
-  pub cause : Cause rules number block
-  pub given : paper ≡ refused number block
+  pub place : ℕ
+  pub cause : Cause rules number place
+  pub given : outcome ≡ refused number place
 
--- an answer that is lawful under the rules
-pub record Lawful (paper : Paper) (rules : List Rule) (values : List ℕ) : Type 0 where
-  -- every input has an answer: these values where all rules are kept, and otherwise a refusal for a cause
-  pub always : (Kept rules × (paper ≡ answered values)) ⊎ Refusal paper rules
+-- an outcome that is lawful under the rules (RULES: Demands)
+pub record Lawful {Told : Type 0} (outcome : Outcome Told) (rules : List Rule) (told : Told) : Type 0 where
+  -- every input has an answer: it tells this where all rules are kept, and otherwise it is a refusal for a cause
+  pub always : (Kept rules × (outcome ≡ answered told)) ⊎ Refusal outcome rules
   -- a refusal's number implies its cause
-  pub only : (number block : ℕ) → paper ≡ refused number block → Cause rules number block
+  pub only : (number place : ℕ) → outcome ≡ refused number place → Cause rules number place
   -- a cause, with no earlier one, implies the refusal
-  pub first : (number block : ℕ) → Cause rules number block → paper ≡ refused number block
+  pub first : (number place : ℕ) → Cause rules number place → outcome ≡ refused number place
 
--- the rules of each call, in document 01's order
+-- the rules of each call, in their order (RULES: Refusals)
 
 abbrev pub countRules : Settings → ℕ → ℕ → ℕ → List Rule
 countRules s level lo hi = rule (isGood s) badSettings ∷ rule (leb level (top s)) badLevel ∷ rule (inRange s lo hi) badRange ∷ []
@@ -75,13 +75,16 @@ addRules k lo hi = rule (isSketch k) notOne ∷ rule (inRange (k .settings) lo h
 abbrev pub mergeRules : Sketch → Sketch → List Rule
 mergeRules j k = rule (isSketch j) notOne ∷ rule (isSketch k) notOne ∷ rule (sameSettings (j .settings) (k .settings)) unequal ∷ []
 
+abbrev pub estimateRules : Sketch → List Rule
+estimateRules k = rule (isSketch k) notOne ∷ []
+
 abbrev pub writeRules : Sketch → ℕ → List Rule
 writeRules k room = rule (isSketch k) notOne ∷ rule (leb (length (imageOf k)) room) noRoom ∷ []
 
 abbrev pub readRules : List ℕ → List Rule
 readRules s =
     rule (rightLength (length s)) badImage ∷
-    record { holds = not (ltb (firstWrong s) (blocksIn s)); number = badCheck; block = firstWrong s } ∷
+    record { holds = not (ltb (firstWrong s) (blocksIn s)); number = badCheck; place = firstWrong s } ∷
     rule (marked s) badImage ∷
-    rule (isGood (settingsIn s)) badSettings ∷
+    rule (isGood (saidSettings s)) badSettings ∷
     rule (isImage s) badImage ∷ []

@@ -4,26 +4,22 @@
 --     Feeding         a turn of `feed`: what it was fed is done, and what it has still to take is what it takes
 --     feeding-start, feeding-line, feeding-noted, feeding-long     the turns
 --     feeding-done, feeding-full       the two ends
---     stored-room     a text that is stored has had its room
 --     rest-none, rest-line     the answer to a last line without a newline
 -- Assumes nothing.
 use mathlib.Core.Path.{_≡_, refl, sym, ap, _∙_, subst}
 use mathlib.Core.List.{List, [], _∷_, _++_, append-assoc, append-nil}
 use Prim.Native.Nat.{ℕ, suc, _+_, _-_, _≤_, _<_}
 use native.Mathlib.Omega.{arith}
-use lib.ListN.{length, take, drop, getD, length-append, drop-of-length-le}
-use lib.Seq.{length-take-le}
+use lib.ListN.{length, take, drop, getD, drop-of-length-le}
 use borrow.Author.Tests.{le-leb, lt-leb, lt-ltb, le-ltb, eq-eqb, ne-eqb}
-use Rattle.rule.proofs.Places.{placed-none}
-use Rattle.rule.proofs.Steps.{next, take-next}
-use Rattle.line.specs.Texts.{Stored}
-use Rattle.line.proofs.Stores.{stored-then}
+use Rattle.lists.specs.Rows.{Stored}
+use Rattle.lists.proofs.Steps.{next, take-next}
+use Rattle.lists.proofs.Stores.{stored-none, stored-then, stored-as, stored-room}
 use Rattle.evening.specs.declared.Pot.{Pot}
 use Rattle.evening.specs.declared.Evening.{Evening}
 use Rattle.evening.specs.declared.Told.{Told}
 use Rattle.evening.specs.Replies.{Tells, Sits, replyOf}
 use Rattle.evening.specs.Runs.{Run, Sitting, lineOf, lengthened, ended, step, after, fed, takes, Feeds, rest}
-use Rattle.evening.proofs.Replying.{stored-as}
 use Rattle.evening.proofs.Staying.{reply-sits, lengthened-sits}
 
 after-after : (a b c : Run) → after a (after b c) ≡ after (after a b) c
@@ -41,13 +37,15 @@ unfolding fed
 fed-one s x = ap (λ (o : List ℕ). record { evening = step s x .evening; output = o }) (append-nil (step s x .output))
 
 -- one byte more
-fed-more : (s : Evening) (input : List ℕ) (i : ℕ) → i < length input → fed s (take (i + 1) input) ≡ after (fed s (take i input)) (step (fed s (take i input) .evening) (getD input i 0))
+fed-more : (s : Evening) (input : List ℕ) (i : ℕ) → i < length input
+    → fed s (take (i + 1) input) ≡ after (fed s (take i input)) (step (fed s (take i input) .evening) (getD input i 0))
 fed-more s input i h =
     ap (fed s) (take-next input i h)
     ∙ fed-append s (take i input) (getD input i 0 ∷ [])
     ∙ ap (after (fed s (take i input))) (fed-one (fed s (take i input) .evening) (getD input i 0))
 
-takes-more : (room : ℕ) (s : Evening) (x : ℕ) (xs : List ℕ) → 40 ≤ room → takes room s (x ∷ xs) ≡ suc (takes (room - length (step s x .output)) (step s x .evening) xs)
+takes-more : (room : ℕ) (s : Evening) (x : ℕ) (xs : List ℕ) → 40 ≤ room
+    → takes room s (x ∷ xs) ≡ suc (takes (room - length (step s x .output)) (step s x .evening) xs)
 unfolding takes
 takes-more room s x xs h = rw (le-leb 40 room h)
 
@@ -76,23 +74,8 @@ step-long : (s : Evening) (x : ℕ) → (x ≡ 10 → ⊥) → 65 ≤ s .length 
 unfolding step
 step-long s x n l = rw (ne-eqb x 10 n, le-ltb (s .length) 65 l)
 
-stored-none : (row : List ℕ) (at : ℕ) → Stored row at [] row at
-stored-none row at = record { contents = sym (placed-none row at); after = omega arith }
-
--- a text that is stored has had its room
-pub stored-room : {row : List ℕ} {at : ℕ} {text out : List ℕ} {next : ℕ} → at ≤ length row → length out ≡ length row → Stored row at text out next → next ≤ length row
-stored-room {row} {at} {text} {out} {next} h l s =
-    let t : length (take at row) ≡ at = length-take-le at row h in
-    omega (
-      arith,
-      s .after,
-      ap length (s .contents),
-      length-append (take at row) (text ++ drop (at + length text) row),
-      length-append text (drop (at + length text) row),
-    )
-
 -- the rest of an input
-pub rest-none : (s : Evening) (row : List ℕ) → s .length ≡ 0 → Stored row 0 (rest s) row 0
+pub rest-none : (s : Evening) (row : List ℕ) → s .length ≡ 0 → Stored row 0 (rest s) 0 row
 unfolding rest
 rest-none s row e = rw (eq-eqb (s .length) 0 e) (stored-none row 0)
 
@@ -106,7 +89,7 @@ pub record Feeding (s₀ : Evening) (input row : List ℕ) (s : Evening) (i : �
   pub room : written ≤ length row
   pub same : length out ≡ length row
   pub evening : s ≡ fed s₀ (take i input) .evening
-  pub stored : Stored row 0 (fed s₀ (take i input) .output) out written
+  pub stored : Stored row 0 (fed s₀ (take i input) .output) written out
   pub taken : i + takes (length row - written) s (drop i input) ≡ takes (length row) s₀ input
 
 pub feeding-start : (s : Evening) (input row : List ℕ) → Sitting s → Feeding s input row s 0 row 0
@@ -125,12 +108,17 @@ feeding-start s input row w =
     }
 
 module _ {s₀ : Evening} {input row : List ℕ} {s : Evening} {i : ℕ} {out : List ℕ} {written : ℕ} (f : Feeding s₀ input row s i out written) where
-  feeding-step : i < length input → 40 ≤ length row - written → (run : Run) (out′ : List ℕ) (written′ : ℕ) → step s (getD input i 0) ≡ run → Stored out written (run .output) out′ written′ → length out′ ≡ length out → Sitting (run .evening) → Feeding s₀ input row (run .evening) (i + 1) out′ written′
+  feeding-step : i < length input → 40 ≤ length row - written → (run : Run) (out′ : List ℕ) (written′ : ℕ) → step s (getD input i 0) ≡ run
+      → Stored out written (run .output) written′ out′ → length out′ ≡ length out → Sitting (run .evening)
+      → Feeding s₀ input row (run .evening) (i + 1) out′ written′
   feeding-step h m run out′ written′ e t l w =
       let x = getD input i 0 in
-      let more : fed s₀ (take (i + 1) input) ≡ after (fed s₀ (take i input)) run = fed-more s₀ input i h ∙ ap (λ (v : Evening). after (fed s₀ (take i input)) (step v x)) (sym (f .evening)) ∙ ap (after (fed s₀ (take i input))) e in
-      let room : written′ ≤ length out = stored-room (omega (arith, f .same)) l t in
-      let left : length row - written - length (run .output) ≡ length row - written′ = omega (arith, t .after) in
+      let more : fed s₀ (take (i + 1) input) ≡ after (fed s₀ (take i input)) run =
+      fed-more s₀ input i h
+      ∙ ap (λ (v : Evening). after (fed s₀ (take i input)) (step v x)) (sym (f .evening))
+      ∙ ap (after (fed s₀ (take i input))) e in
+      let room : written′ ≤ length out = stored-room t (omega (arith, f .same)) l in
+      let left : length row - written - length (run .output) ≡ length row - written′ = omega (arith, t .next-place) in
       let turn : takes (length row - written) s (drop i input) ≡ suc (takes (length row - written′) (run .evening) (drop (i + 1) input)) =
       ap (takes (length row - written) s) (next input i h)
       ∙ takes-more (length row - written) s x (drop (i + 1) input) m
@@ -142,23 +130,28 @@ module _ {s₀ : Evening} {input row : List ℕ} {s : Evening} {i : ℕ} {out : 
         room = omega (arith, f .same);
         same = l ∙ f .same;
         evening = sym (ap (λ (v : Run). v .evening) more);
-        stored = stored-as (sym (ap (λ (v : Run). v .output) more)) (stored-then (omega arith) (f .stored) t);
+        stored = stored-as (stored-then (f .stored) (run .output) t (omega arith)) (sym (ap (λ (v : Run). v .output) more));
         taken = omega (arith, f .taken);
       }
 
   -- a newline: the line is answered
-  pub feeding-line : i < length input → 40 ≤ length row - written → getD input i 0 ≡ 10 → (r : Told) (out′ : List ℕ) → Tells out written (replyOf (s .pot) (lineOf s)) out′ r → length out′ ≡ length out → Feeding s₀ input row (record { pot = r .pot; length = 0; line = s .line }) (i + 1) out′ (r .next)
+  pub feeding-line : i < length input → 40 ≤ length row - written → getD input i 0 ≡ 10 → (r : Told) (out′ : List ℕ)
+      → Tells out written (replyOf (s .pot) (lineOf s)) out′ r → length out′ ≡ length out
+      → Feeding s₀ input row (record { pot = r .pot; length = 0; line = s .line }) (i + 1) out′ (r .next)
   feeding-line h m x r out′ t l =
       let reply = replyOf (s .pot) (lineOf s) in
-      let e : step s (getD input i 0) ≡ record { evening = record { pot = r .pot; length = 0; line = s .line }; output = reply .text } =
-      step-newline s (getD input i 0) x ∙ ap (λ (p : Pot). record { evening = record { pot = p; length = 0; line = s .line }; output = reply .text }) (sym (t .pot)) in
+      let next : Pot → Run = λ p. record { evening = record { pot = p; length = 0; line = s .line }; output = reply .text } in
+      let e : step s (getD input i 0) ≡ next (r .pot) = step-newline s (getD input i 0) x ∙ ap next (sym (t .pot)) in
       let w : Sits (r .pot) = subst Sits (sym (t .pot)) (reply-sits (s .pot) (lineOf s) (f .sits .pot)) in
-      feeding-step h m (record { evening = record { pot = r .pot; length = 0; line = s .line }; output = reply .text }) out′ (r .next) e (t .stored) l (record { pot = w; short = omega arith })
+      feeding-step h m (next (r .pot)) out′ (r .next) e (t .stored) l (record { pot = w; short = omega arith })
 
   -- a byte of the line
-  pub feeding-noted : i < length input → 40 ≤ length row - written → (getD input i 0 ≡ 10 → ⊥) → s .length < 65 → Feeding s₀ input row (lengthened s (getD input i 0)) (i + 1) out written
+  pub feeding-noted : i < length input → 40 ≤ length row - written → (getD input i 0 ≡ 10 → ⊥) → s .length < 65
+      → Feeding s₀ input row (lengthened s (getD input i 0)) (i + 1) out written
   feeding-noted h m x n =
-      feeding-step h m (record { evening = lengthened s (getD input i 0); output = [] }) out written (step-noted s (getD input i 0) x n) (stored-none out written) refl (lengthened-sits s (getD input i 0) (f .sits) (lt-ltb (s .length) 65 n))
+      let b = getD input i 0 in
+      let w : Sitting (lengthened s b) = lengthened-sits s b (f .sits) (lt-ltb (s .length) 65 n) in
+      feeding-step h m (record { evening = lengthened s b; output = [] }) out written (step-noted s b x n) (stored-none out written) refl w
 
   -- a byte of an overlong line
   pub feeding-long : i < length input → 40 ≤ length row - written → (getD input i 0 ≡ 10 → ⊥) → 65 ≤ s .length → Feeding s₀ input row s (i + 1) out written

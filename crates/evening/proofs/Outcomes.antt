@@ -10,38 +10,37 @@ use mathlib.Core.List.{List, [], _∷_}
 use Prim.Native.Nat.{ℕ}
 use native.Mathlib.Omega.{arith}
 use lib.Dec.{eqb}
-use lib.IntN.{pos}
-use lib.Ieee.{binary64, ofInt}
 use lib.ListN.{take, getD}
+use borrow.Author.Tests.{eqb-true, eqb-false}
+use Rattle.lists.specs.Rows.{Stored}
+use Rattle.lists.proofs.Tests.{tested}
+use Rattle.lists.proofs.Stores.{stored-same, stored-as}
 use Rattle.rule.specs.declared.Settings.{Settings}
-use Rattle.rule.specs.Rule.{isGood}
-use Rattle.rule.specs.Refusals.{Paper, answered, refused, badSettings, badLine, notOne}
-use Rattle.rule.proofs.Lists.{tested}
-use Rattle.find.proofs.Checks.{unless-told}
+use Rattle.rule.specs.Refusals.{Outcome, Paper, answered, refused, badLine}
 use Rattle.find.specs.Finding.{countOn, nextOn}
 use Rattle.sketch.specs.declared.Sketch.{Sketch}
 use Rattle.sketch.specs.Sketches.{Sound, isSketch, opened, add}
 use Rattle.sketch.specs.Calls.{openOn, addOn}
 use Rattle.sketch.specs.declared.estimates.Estimate.{Estimate}
-use Rattle.sketch.specs.declared.estimates.Estimate.the-variants.{Exact, About, Refused}
-use Rattle.sketch.specs.Estimates.{standsFor, estimateOf, Estimates}
-use Rattle.sketch.proofs.Facts.{sketch-facts, facts-sketch}
-use Rattle.sketch.proofs.Results.{open-again, add-again}
-use Rattle.sketch.proofs.Worth.{level-small}
+use Rattle.sketch.specs.Estimates.{Weight, exactly, about, ofEstimate, standsFor, Estimates}
+use Rattle.sketch.proofs.Facts.{facts-sketch}
+use Rattle.sketch.proofs.Worth.{level-small, weighs-exact, weighs-about}
 use Rattle.line.specs.declared.commands.Command.{Command}
 use Rattle.line.specs.declared.commands.Command.the-variants as command
 use Rattle.line.specs.Lines.{commandOf}
-use Rattle.line.specs.Texts.{Stored, OneLine, textExact, textAbout, textRefusal}
-use Rattle.line.proofs.Answers.{kept-line, exact-line, about-line, count-line, cell-line, none-line, refusal-line, stored-same}
+use Rattle.line.specs.Texts.{OneLine, textExact, textAbout, textRefusal}
+use Rattle.line.proofs.Answers.{kept-line, exact-line, about-line, count-line, cell-line, none-line, refusal-line}
 use Rattle.evening.specs.declared.Pot.{Pot}
 use Rattle.evening.specs.declared.Told.{Told}
 use Rattle.evening.specs.declared.Evening.{Evening}
 use Rattle.evening.specs.declared.Fed.{Fed}
-use Rattle.evening.specs.Replies.{Reply, Tells, Sits, kept, says, estimateText, countText, cellText, replied, whenOpen, openReply, addReply, replyTo, replyOf}
+use Rattle.evening.specs.Replies.{Reply, Tells, Sits, kept, says, estimateText, countText, cellText, replied, whenOpen, openReply, addReply}
+use Rattle.evening.specs.Replies.{replyTo, replyOf}
 use Rattle.evening.specs.Runs.{Run, fed, Feeds, rest}
-use Rattle.evening.proofs.Replying.{stored-as}
+use Rattle.evening.proofs.Staying.{opened-sound, added-sound}
 
-pub tells-tight : {row : List ℕ} {at : ℕ} {reply : Reply} {out out′ : List ℕ} {r r′ : Told} → Tells row at reply out r → Tells row at reply out′ r′ → (out ≡ out′) × (r ≡ r′)
+pub tells-tight : {row : List ℕ} {at : ℕ} {reply : Reply} {out out′ : List ℕ} {r r′ : Told} → Tells row at reply out r → Tells row at reply out′ r′
+    → (out ≡ out′) × (r ≡ r′)
 tells-tight {row} {at} {reply} {out} {out′} {r} {r′} a b =
     let t = stored-same (a .stored) (b .stored) in (
       t .0,
@@ -52,7 +51,7 @@ pub feeds-tight : {s : Evening} {input row out out′ : List ℕ} {r r′ : Fed}
 feeds-tight {s} {input} {row} {out} {out′} {r} {r′} a b =
     let t : r .taken ≡ r′ .taken = a .taken ∙ sym (b .taken) in
     let same : fed s (take (r .taken) input) ≡ fed s (take (r′ .taken) input) = ap (λ (n : ℕ). fed s (take n input)) t in
-    let w = stored-same (stored-as (ap (λ (v : Run). v .output) same) (a .stored)) (b .stored) in
+    let w = stored-same (stored-as (a .stored) (ap (λ (v : Run). v .output) same)) (b .stored) in
     let e : r .evening ≡ r′ .evening = a .evening ∙ ap (λ (v : Run). v .evening) same ∙ sym (b .evening) in (
       w .0,
       ap (λ (v : Evening). record { evening = v; taken = r .taken; written = r .written }) e
@@ -60,29 +59,28 @@ feeds-tight {s} {input} {row} {out} {out′} {r} {r′} a b =
           ∙ ap (λ (n : ℕ). record { evening = r′ .evening; taken = r′ .taken; written = n }) (w .1),
     )
 
-pub rest-tight : (s : Evening) {row out out′ : List ℕ} {n n′ : ℕ} → Stored row 0 (rest s) out n → Stored row 0 (rest s) out′ n′ → (out ≡ out′) × (n ≡ n′)
+pub rest-tight : (s : Evening) {row out out′ : List ℕ} {n n′ : ℕ} → Stored row 0 (rest s) n out → Stored row 0 (rest s) n′ out′ → (out ≡ out′) × (n ≡ n′)
 rest-tight s a b = stored-same a b
 
-replied-line : (pot : Pot) (paper : Paper) (reply : List ℕ → Reply) → ((values : List ℕ) → paper ≡ answered values → OneLine (reply values .text)) → OneLine (replied pot paper reply .text)
+replied-line : (pot : Pot) (paper : Paper) (reply : List ℕ → Reply) → ((values : List ℕ) → paper ≡ answered values → OneLine (reply values .text))
+    → OneLine (replied pot paper reply .text)
 replied-line pot (answered values) reply f = f values refl
-replied-line pot (refused number block) reply f = refusal-line number
+replied-line pot (refused number place) reply f = refusal-line number
 
 kept-one : (k : Sketch) → Sound k → OneLine (kept k .text)
 kept-one k w = kept-line (k .level) (k .count) (omega (arith, level-small k w))
 
 open-line : (pot : Pot) (s : Settings) → OneLine (openReply pot s .text)
-unfolding openOn
-open-line pot s =
-    replied-line pot (openOn s) (λ values. kept (opened s))
-    (λ values e. kept-one (opened s) (sketch-facts (opened s) (open-again s (unless-told (isGood s) badSettings (answered []) values e .0))))
+open-line pot s = replied-line pot (openOn s) (λ values. kept (opened s)) (λ values e. kept-one (opened s) (opened-sound s values e))
 
 add-line : (pot : Pot) (lo hi : ℕ) → Sits pot → OneLine (addReply pot lo hi .text)
 add-line pot lo hi w =
     replied-line pot (whenOpen pot (addOn (pot .sketch) lo hi)) (λ values. kept (add (pot .sketch) lo hi))
-    (λ values e. kept-one (add (pot .sketch) lo hi) (sketch-facts (add (pot .sketch) lo hi) (add-again (pot .sketch) lo hi (facts-sketch (pot .sketch) (w .sound (unless-told (pot .opened) notOne (addOn (pot .sketch) lo hi) values e .0))))))
+    (λ values e. kept-one (add (pot .sketch) lo hi) (added-sound pot lo hi w values e))
 
 estimate-line : (k : Sketch) → OneLine (estimateText k)
-estimate-line k = ⊎-elim (λ (e : eqb (k .level) 0 ≡ true). rw e (exact-line (k .count))) (λ (e : eqb (k .level) 0 ≡ false). rw e (about-line (standsFor k))) (tested (eqb (k .level) 0))
+estimate-line k = ⊎-elim (λ (e : eqb (k .level) 0 ≡ true). rw e (exact-line (k .count))) (λ (e : eqb (k .level) 0 ≡ false). rw e (about-line (standsFor k)))
+    (tested (eqb (k .level) 0))
 
 cell-text-line : (values : List ℕ) → OneLine (cellText values)
 cell-text-line [] = none-line
@@ -92,26 +90,30 @@ command-line : (pot : Pot) (c : Command) → Sits pot → OneLine (replyTo pot c
 unfolding replyTo
 command-line pot (command.Settings n p a b capacity) w = open-line pot (record { n = n; p = p; a = a; b = b; capacity = capacity })
 command-line pot (command.Add lo hi) w = add-line pot lo hi w
-command-line pot command.Estimate w = replied-line pot (whenOpen pot (answered [])) (λ values. says pot (estimateText (pot .sketch))) (λ values e. estimate-line (pot .sketch))
-command-line pot (command.Count level lo hi) w = replied-line pot (whenOpen pot (countOn (pot .sketch .settings) level lo hi)) (λ values. says pot (countText values)) (λ values e. count-line (getD values 0 0))
-command-line pot (command.Next level from) w = replied-line pot (whenOpen pot (nextOn (pot .sketch .settings) level from)) (λ values. says pot (cellText values)) (λ values e. cell-text-line values)
+command-line pot command.Estimate w = replied-line pot (whenOpen pot (answered [])) (λ values. says pot (estimateText (pot .sketch)))
+    (λ values e. estimate-line (pot .sketch))
+command-line pot (command.Count level lo hi) w =
+    replied-line pot (whenOpen pot (countOn (pot .sketch .settings) level lo hi)) (λ values. says pot (countText values))
+    (λ values e. count-line (getD values 0 0))
+command-line pot (command.Next level from) w =
+    replied-line pot (whenOpen pot (nextOn (pot .sketch .settings) level from)) (λ values. says pot (cellText values))
+    (λ values e. cell-text-line values)
 command-line pot command.Unknown w = refusal-line badLine
 
 pub reply-line : (pot : Pot) (line : List ℕ) → Sits pot → OneLine (replyOf pot line .text)
 unfolding replyOf
 reply-line pot line w = command-line pot (commandOf line) w
 
--- an estimate's answer in print, where it is worth m
-abbrev pub printed : Estimate → ℕ → List ℕ
-printed (Exact v) m = textExact v
-printed (About x) m = textAbout m
-printed (Refused number) m = textRefusal number
+-- what an estimate tells, in print, where it is worth m
+abbrev pub printed : Outcome Weight → ℕ → List ℕ
+printed (answered (exactly v)) m = textExact v
+printed (answered (about x)) m = textAbout m
+printed (refused number place) m = textRefusal number
 
-pub estimate-printed : (k : Sketch) (r : Estimate) → Sound k → Estimates k r → estimateText k ≡ printed r (standsFor k)
-unfolding estimateOf
+pub estimate-printed : (k : Sketch) (r : Estimate) → Sound k → Estimates k r → estimateText k ≡ printed (ofEstimate r) (standsFor k)
 estimate-printed k r w e =
     let s : isSketch k ≡ true = facts-sketch k w in
     ⊎-elim
-    (λ (l : eqb (k .level) 0 ≡ true). let q : r ≡ Exact (k .count) = e .is ∙ (rw (s, l)) in rw (l, q))
-    (λ (l : eqb (k .level) 0 ≡ false). let q : r ≡ About (ofInt binary64 (pos (standsFor k))) = e .is ∙ (rw (s, l)) in rw (l, q))
+    (λ (l : eqb (k .level) 0 ≡ true). rw (l, e .answer ∙ weighs-exact k s (eqb-true (k .level) 0 l)))
+    (λ (l : eqb (k .level) 0 ≡ false). rw (l, e .answer ∙ weighs-about k s (eqb-false (k .level) 0 l)))
     (tested (eqb (k .level) 0))

@@ -1,12 +1,12 @@
 -- The replies to the commands, by what the calls answer.
---     stored-as, tells-as      a text and a reply under another name
+--     tells-as        a reply under another name
 --     says-tells      a stored text as a reply that leaves the pot
 --     replied-as      the reply to a line, by its command
 --     replied-refused, replied-answered    the reply to a paper
 --     unopened, is-opened      the number 4 comes before any other
 --     estimate-exact, estimate-about       the text of an estimate
 --     open-refused, open-kept  the replies to S
---     add-unopened, add-bad, add-kept      the replies to A
+--     add-refused, add-kept    the replies to A
 --     estimate-unopened, estimate-said     the replies to E
 --     count-unopened, count-refused, count-said    the replies to C
 --     next-unopened, next-refused, next-said       the replies to N
@@ -14,36 +14,37 @@
 use mathlib.Core.Path.{_≡_, refl, sym, ap, _∙_, subst}
 use mathlib.Core.Bool.{true, false}
 use mathlib.Core.List.{List, [], _∷_}
-use Prim.Native.Nat.{ℕ, _*_, _%_, _^_}
+use mathlib.Core.Logic.{⊎-elim}
+use Prim.Native.Nat.{ℕ}
 use borrow.Author.Tests.{eq-eqb, ne-eqb}
+use Rattle.lists.specs.Rows.{Stored}
+use Rattle.lists.proofs.Tests.{tested}
 use Rattle.rule.specs.declared.Settings.{Settings}
 use Rattle.rule.specs.Refusals.{Paper, answered, refused, notOne}
-use Rattle.find.specs.Finding.{inRange, countOn, nextOn}
+use Rattle.find.specs.Finding.{countOn, nextOn}
 use Rattle.sketch.specs.declared.Sketch.{Sketch}
-use Rattle.sketch.specs.Sketches.{Sound, opened, add}
-use Rattle.sketch.specs.Calls.{noSketch, openOn, addOn, handed}
-use Rattle.sketch.proofs.Facts.{facts-sketch, count-few}
-use Rattle.sketch.proofs.Handing as handing
-use Rattle.sketch.proofs.Worth.{level-small, shifted}
+use Rattle.sketch.specs.Sketches.{opened, add}
+use Rattle.sketch.specs.Estimates.{standsFor}
+use Rattle.sketch.specs.Calls.{noSketch, openOn, addWhen, addOn, handed}
+use Rattle.sketch.proofs.Facts.{facts-sketch}
 use Rattle.line.specs.declared.commands.Command.{Command}
 use Rattle.line.specs.Lines.{commandOf}
-use Rattle.line.specs.Texts.{Stored, textExact, textAbout, textCount}
+use Rattle.line.specs.Texts.{textExact, textAbout, textCount}
 use Rattle.evening.specs.declared.Pot.{Pot}
 use Rattle.evening.specs.declared.Told.{Told}
-use Rattle.evening.specs.Replies.{Reply, Tells, Sits, refusal, kept, says, estimateText, countText, cellText, replied, whenOpen, openReply, addReply, estimateReply, countReply, nextReply, replyTo, replyOf}
+use Rattle.evening.specs.Replies.{Reply, Tells, Sits, refusal, kept, says, estimateText, countText, cellText, replied, whenOpen, openReply, addReply}
+use Rattle.evening.specs.Replies.{estimateReply, countReply, nextReply, replyTo, replyOf}
 
 pub tells-as : {row : List ℕ} {at : ℕ} {a b : Reply} {out : List ℕ} {r : Told} → a ≡ b → Tells row at a out r → Tells row at b out r
 tells-as {row} {at} {a} {b} {out} {r} e t = subst (λ (x : Reply). Tells row at x out r) e t
 
-pub stored-as : {row : List ℕ} {at : ℕ} {a b out : List ℕ} {next : ℕ} → a ≡ b → Stored row at a out next → Stored row at b out next
-stored-as {row} {at} {a} {b} {out} {next} e s = subst (λ (x : List ℕ). Stored row at x out next) e s
-
-pub says-tells : {row : List ℕ} {at : ℕ} {text out : List ℕ} {next : ℕ} (pot : Pot) → Stored row at text out next → Tells row at (says pot text) out (record { pot = pot; next = next })
+pub says-tells : {row : List ℕ} {at : ℕ} {text out : List ℕ} {next : ℕ} (pot : Pot) → Stored row at text next out
+    → Tells row at (says pot text) out (record { pot = pot; next = next })
 says-tells pot s = record { stored = s; pot = refl }
 
 module _ (pot : Pot) (paper : Paper) (reply : List ℕ → Reply) where
-  pub replied-refused : (number block : ℕ) → paper ≡ refused number block → refusal pot number ≡ replied pot paper reply
-  replied-refused number block e = rw e
+  pub replied-refused : (number place : ℕ) → paper ≡ refused number place → refusal pot number ≡ replied pot paper reply
+  replied-refused number place e = rw e
 
   pub replied-answered : (values : List ℕ) → paper ≡ answered values → reply values ≡ replied pot paper reply
   replied-answered values e = rw e
@@ -59,8 +60,8 @@ module _ (k : Sketch) where
   pub estimate-exact : k .level ≡ 0 → textExact (k .count) ≡ estimateText k
   estimate-exact e = rw (eq-eqb (k .level) 0 e)
 
-  pub estimate-about : Sound k → (k .level ≡ 0 → ⊥) → textAbout (k .count * 2 ^ k .level % 18446744073709551616) ≡ estimateText k
-  estimate-about w z = ap textAbout (shifted (k .level) (k .count) (level-small k w) (count-few k w)) ∙ (rw (ne-eqb (k .level) 0 z))
+  pub estimate-about : (k .level ≡ 0 → ⊥) → textAbout (standsFor k) ≡ estimateText k
+  estimate-about z = rw (ne-eqb (k .level) 0 z)
 
 -- S
 handed-done : (paper : Paper) (next old : Sketch) → paper ≡ answered [] → handed paper next old ≡ next
@@ -73,21 +74,26 @@ module _ (pot : Pot) (s : Settings) where
   pub open-kept : (k : Sketch) → openOn s ≡ answered [] → k ≡ handed (openOn s) (opened s) noSketch → kept k ≡ openReply pot s
   open-kept k e q = ap kept (q ∙ handed-done (openOn s) (opened s) noSketch e) ∙ replied-answered pot (openOn s) (λ values. kept (opened s)) [] e
 
--- A
-module _ (pot : Pot) (lo hi : ℕ) where
-  pub add-unopened : pot .opened ≡ false → refusal pot 4 ≡ addReply pot lo hi
-  add-unopened o = replied-refused pot (whenOpen pot (addOn (pot .sketch) lo hi)) (λ values. kept (add (pot .sketch) lo hi)) 4 0 (unopened pot (addOn (pot .sketch) lo hi) o)
+-- A: what is open is a sketch, so that adding need not test it
+module _ (pot : Pot) (lo hi : ℕ) (w : Sits pot) where
+  open-adds : addWhen (pot .opened) (pot .sketch .settings) lo hi ≡ whenOpen pot (addOn (pot .sketch) lo hi)
+  unfolding addOn
+  open-adds =
+      ⊎-elim
+      (λ (o : pot .opened ≡ true). rw (o, facts-sketch (pot .sketch) (w .sound o)))
+      (λ (o : pot .opened ≡ false). rw o)
+      (tested (pot .opened))
 
-  pub add-bad : Sits pot → pot .opened ≡ true → inRange (pot .sketch .settings) lo hi ≡ false → refusal pot 2 ≡ addReply pot lo hi
-  add-bad w o r =
-      replied-refused pot (whenOpen pot (addOn (pot .sketch) lo hi)) (λ values. kept (add (pot .sketch) lo hi)) 2 0
-      (is-opened pot (addOn (pot .sketch) lo hi) o ∙ handing.add-bad (pot .sketch) lo hi (facts-sketch (pot .sketch) (w .sound o)) r)
+  pub add-refused : (number : ℕ) → addWhen (pot .opened) (pot .sketch .settings) lo hi ≡ refused number 0 → refusal pot number ≡ addReply pot lo hi
+  add-refused number e =
+      replied-refused pot (whenOpen pot (addOn (pot .sketch) lo hi)) (λ values. kept (add (pot .sketch) lo hi)) number 0 (sym open-adds ∙ e)
 
-  pub add-kept : Sits pot → pot .opened ≡ true → (k : Sketch) → inRange (pot .sketch .settings) lo hi ≡ true → k ≡ add (pot .sketch) lo hi → kept k ≡ addReply pot lo hi
-  add-kept w o k r q =
-      ap kept q
-      ∙ replied-answered pot (whenOpen pot (addOn (pot .sketch) lo hi)) (λ values. kept (add (pot .sketch) lo hi)) []
-      (is-opened pot (addOn (pot .sketch) lo hi) o ∙ handing.add-in (pot .sketch) lo hi (facts-sketch (pot .sketch) (w .sound o)) r)
+  pub add-kept : (k : Sketch) → addWhen (pot .opened) (pot .sketch .settings) lo hi ≡ answered []
+      → k ≡ handed (addWhen (pot .opened) (pot .sketch .settings) lo hi) (add (pot .sketch) lo hi) (pot .sketch)
+      → kept k ≡ addReply pot lo hi
+  add-kept k e q =
+      ap kept (q ∙ handed-done (addWhen (pot .opened) (pot .sketch .settings) lo hi) (add (pot .sketch) lo hi) (pot .sketch) e)
+      ∙ replied-answered pot (whenOpen pot (addOn (pot .sketch) lo hi)) (λ values. kept (add (pot .sketch) lo hi)) [] (sym open-adds ∙ e)
 
 -- E
 module _ (pot : Pot) where
@@ -104,12 +110,14 @@ module _ (pot : Pot) (level lo hi : ℕ) where
       let p = countOn (pot .sketch .settings) level lo hi in
       replied-refused pot (whenOpen pot p) (λ values. says pot (countText values)) 4 0 (unopened pot p o)
 
-  pub count-refused : pot .opened ≡ true → (number : ℕ) → countOn (pot .sketch .settings) level lo hi ≡ refused number 0 → refusal pot number ≡ countReply pot level lo hi
+  pub count-refused : pot .opened ≡ true → (number : ℕ) → countOn (pot .sketch .settings) level lo hi ≡ refused number 0
+      → refusal pot number ≡ countReply pot level lo hi
   count-refused o number e =
       let p = countOn (pot .sketch .settings) level lo hi in
       replied-refused pot (whenOpen pot p) (λ values. says pot (countText values)) number 0 (is-opened pot p o ∙ e)
 
-  pub count-said : pot .opened ≡ true → (v : ℕ) → countOn (pot .sketch .settings) level lo hi ≡ answered (v ∷ []) → says pot (textCount v) ≡ countReply pot level lo hi
+  pub count-said : pot .opened ≡ true → (v : ℕ) → countOn (pot .sketch .settings) level lo hi ≡ answered (v ∷ [])
+      → says pot (textCount v) ≡ countReply pot level lo hi
   count-said o v e =
       let p = countOn (pot .sketch .settings) level lo hi in
       replied-answered pot (whenOpen pot p) (λ values. says pot (countText values)) (v ∷ []) (is-opened pot p o ∙ e)
@@ -121,12 +129,14 @@ module _ (pot : Pot) (level from : ℕ) where
       let p = nextOn (pot .sketch .settings) level from in
       replied-refused pot (whenOpen pot p) (λ values. says pot (cellText values)) 4 0 (unopened pot p o)
 
-  pub next-refused : pot .opened ≡ true → (number : ℕ) → nextOn (pot .sketch .settings) level from ≡ refused number 0 → refusal pot number ≡ nextReply pot level from
+  pub next-refused : pot .opened ≡ true → (number : ℕ) → nextOn (pot .sketch .settings) level from ≡ refused number 0
+      → refusal pot number ≡ nextReply pot level from
   next-refused o number e =
       let p = nextOn (pot .sketch .settings) level from in
       replied-refused pot (whenOpen pot p) (λ values. says pot (cellText values)) number 0 (is-opened pot p o ∙ e)
 
-  pub next-said : pot .opened ≡ true → (values : List ℕ) → nextOn (pot .sketch .settings) level from ≡ answered values → says pot (cellText values) ≡ nextReply pot level from
+  pub next-said : pot .opened ≡ true → (values : List ℕ) → nextOn (pot .sketch .settings) level from ≡ answered values
+      → says pot (cellText values) ≡ nextReply pot level from
   next-said o values e =
       let p = nextOn (pot .sketch .settings) level from in
       replied-answered pot (whenOpen pot p) (λ v. says pot (cellText v)) values (is-opened pot p o ∙ e)

@@ -14,8 +14,8 @@ use lib.Dec.{eqb, leb, ltb}
 use lib.ListN.{length, take, set, length-set, length-replicate}
 use lib.Seq.{length-take-le, take-all, take-append-le, take-suc-set}
 use borrow.Author.Tests.{leb-true, leb-false, ltb-true, ltb-false, eqb-true, eqb-false, eq-eqb, ne-eqb}
-use Rattle.rule.proofs.Lists.{tested}
-use Rattle.rule.proofs.Steps.{length-more}
+use Rattle.lists.proofs.Tests.{tested}
+use Rattle.lists.proofs.Steps.{length-more}
 use Rattle.line.specs.Lines.{commandOf}
 use Rattle.line.proofs.Shapes.{command-long}
 use Rattle.evening.specs.declared.Pot.{Pot}
@@ -52,7 +52,8 @@ holds-noted s line x h =
     (λ (e : ltb (s .length) 65 ≡ true).
     let l : s .length < 65 = ltb-true (s .length) 65 e in
     let n : s .length ≡ length line = omega (arith, h .short) in
-    let a : take (s .length + 1) (set (s .line) (s .length) x) ≡ take (s .length) (s .line) ++ (x ∷ []) = rw add-one (take-suc-set (s .line) (s .length) x (omega (arith, h .places))) in
+    let a : take (s .length + 1) (set (s .line) (s .length) x) ≡ take (s .length) (s .line) ++ (x ∷ []) =
+    rw add-one (take-suc-set (s .line) (s .length) x (omega (arith, h .places))) in
     let b : take 65 line ≡ line = take-all 65 line (omega arith) in
     let c : take 65 (line ++ (x ∷ [])) ≡ line ++ (x ∷ []) = take-all 65 (line ++ (x ∷ [])) (omega arith) in
     rw e record {
@@ -104,7 +105,10 @@ all-lines s line (x ∷ input) h =
     (λ (e : eqb x 10 ≡ true).
     written-step s x input (ended s) (step-ended s x e) ∙ ap (λ (v : List ℕ). replyOf (s .pot) (lineOf s) .text ++ v) one ∙ (rw (e, cut)))
     (λ (e : eqb x 10 ≡ false).
-    written-step s x input (record { evening = noted s x; output = [] }) (step-on s x e) ∙ other ∙ ap (λ (p : Pot). answers p (linesFrom (line ++ (x ∷ [])) input)) (noted-pot s x) ∙ (rw e))
+    written-step s x input (record { evening = noted s x; output = [] }) (step-on s x e)
+    ∙ other
+    ∙ ap (λ (p : Pot). answers p (linesFrom (line ++ (x ∷ [])) input)) (noted-pot s x)
+    ∙ (rw e))
     (tested (eqb x 10))
 
 beginning-holds : Holds beginning []

@@ -5,6 +5,7 @@ use mathlib.Core.Bool.{true, false, cond}
 use mathlib.Core.List.{List, [], _∷_}
 use lib.Dec.{eqb}
 use lib.ListN.{length, getD}
+use Rattle.lists.specs.Rows.{Stored}
 use Rattle.rule.specs.declared.Settings.{Settings}
 use Rattle.rule.specs.Refusals.{Paper, answered, refused, unless, notOne, badLine}
 use Rattle.find.specs.Finding.{countOn, nextOn}
@@ -15,7 +16,7 @@ use Rattle.sketch.specs.Estimates.{standsFor}
 use Rattle.line.specs.declared.commands.Command.{Command}
 use Rattle.line.specs.declared.commands.Command.the-variants as command
 use Rattle.line.specs.Lines.{commandOf}
-use Rattle.line.specs.Texts.{Stored, textKept, textExact, textAbout, textCount, textCell, textNone, textRefusal}
+use Rattle.line.specs.Texts.{textKept, textExact, textAbout, textCount, textCell, textNone, textRefusal}
 use Rattle.evening.specs.declared.Pot.{Pot}
 use Rattle.evening.specs.declared.Told.{Told}
 
@@ -64,7 +65,7 @@ cellText (x ∷ xs) = textCell x
 -- a paper's reply: one for the values, or the refusal
 abbrev pub replied : Pot → Paper → (List ℕ → Reply) → Reply
 replied pot (answered values) reply = reply values
-replied pot (refused number block) reply = refusal pot number
+replied pot (refused number place) reply = refusal pot number
 
 -- the number 4 before any other where no sketch is open
 abbrev pub whenOpen : Pot → Paper → Paper
@@ -89,7 +90,7 @@ countReply pot level lo hi = replied pot (whenOpen pot (countOn (pot .sketch .se
 abbrev pub nextReply : Pot → ℕ → ℕ → Reply
 nextReply pot level from = replied pot (whenOpen pot (nextOn (pot .sketch .settings) level from)) (λ values. says pot (cellText values))
 
--- the reply to each command
+-- the reply to each command (RULES: Program)
 unfoldable pub replyTo : Pot → Command → Reply
 replyTo pot (command.Settings n p a b capacity) = openReply pot (record { n = n; p = p; a = a; b = b; capacity = capacity })
 replyTo pot (command.Add lo hi) = addReply pot lo hi
@@ -108,5 +109,5 @@ Room row at = at + 40 ≤ length row
 
 -- what it promises: the text is stored from a place on, and the pot is the next one
 pub record Tells (row : List ℕ) (at : ℕ) (reply : Reply) (out : List ℕ) (r : Told) : Type 0 where
-  pub stored : Stored row at (reply .text) out (r .next)
+  pub stored : Stored row at (reply .text) (r .next) out
   pub pot : r .pot ≡ reply .pot

@@ -1,11 +1,12 @@
 -- The run over the bytes of an input, in pieces and whole. Assumes nothing: these are definitions.
 use Prim.Native.Nat.{ℕ, suc, _+_, _-_, _≤_}
+use Prim.Native.Char.{code}
 use mathlib.Core.Path.{_≡_}
 use mathlib.Core.Bool.{cond}
 use mathlib.Core.List.{List, [], _∷_, _++_}
 use lib.Dec.{eqb, leb, ltb}
 use lib.ListN.{length, take, set, replicate}
-use Rattle.line.specs.Texts.{Stored}
+use Rattle.lists.specs.Rows.{Stored}
 use Rattle.evening.specs.declared.Pot.{Pot}
 use Rattle.evening.specs.declared.Evening.{Evening}
 use Rattle.evening.specs.declared.Fed.{Fed}
@@ -40,9 +41,9 @@ noted s x = cond (ltb (s .length) 65) (lengthened s x) s
 abbrev pub ended : Evening → Run
 ended s = record { evening = record { pot = replyOf (s .pot) (lineOf s) .pot; length = 0; line = s .line }; output = replyOf (s .pot) (lineOf s) .text }
 
--- a byte: the newline (10), or one of the line
+-- a byte: the newline, or one of the line
 unfoldable pub step : Evening → ℕ → Run
-step s x = cond (eqb x 10) (ended s) (record { evening = noted s x; output = [] })
+step s x = cond (eqb x (code "\n")) (ended s) (record { evening = noted s x; output = [] })
 
 -- one run after another
 abbrev pub after : Run → Run → Run
@@ -62,7 +63,7 @@ takes room s (x ∷ xs) = cond (leb 40 room) (suc (takes (room - length (step s 
 pub record Feeds (s : Evening) (input row out : List ℕ) (r : Fed) : Type 0 where
   pub taken : r .taken ≡ takes (length row) s input
   pub evening : r .evening ≡ fed s (take (r .taken) input) .evening
-  pub stored : Stored row 0 (fed s (take (r .taken) input) .output) out (r .written)
+  pub stored : Stored row 0 (fed s (take (r .taken) input) .output) (r .written) out
 
 -- the answer to a last line without a newline; an empty rest is no line
 unfoldable pub rest : Evening → List ℕ
@@ -71,13 +72,13 @@ rest s = cond (eqb (s .length) 0) [] (replyOf (s .pot) (lineOf s) .text)
 -- the lines of an input after the bytes of a first one: each ends before a newline, and a last line without one counts
 abbrev pub linesFrom : List ℕ → List ℕ → List (List ℕ)
 linesFrom line [] = cond (eqb (length line) 0) [] (line ∷ [])
-linesFrom line (x ∷ xs) = cond (eqb x 10) (line ∷ linesFrom [] xs) (linesFrom (line ++ (x ∷ [])) xs)
+linesFrom line (x ∷ xs) = cond (eqb x (code "\n")) (line ∷ linesFrom [] xs) (linesFrom (line ++ (x ∷ [])) xs)
 
 -- their answers, one after the other
 abbrev pub answers : Pot → List (List ℕ) → List ℕ
 answers pot [] = []
 answers pot (line ∷ lines) = replyOf pot line .text ++ answers (replyOf pot line .pot) lines
 
--- what the program writes
+-- what the program writes (RULES: Program)
 unfoldable pub outputOf : List ℕ → List ℕ
 outputOf input = answers noPot (linesFrom [] input)

@@ -1,17 +1,23 @@
-// A evening of potcount on bytes: each line is answered with a line, and the open sketch is kept from one to the next.
+// An evening of potcount on bytes: each line is answered with a line, and the open sketch is kept from one to the next.
 ghost use mathlib.Core.Path.{_≡_};
 ghost use Prim.Native.Nat.{_≤_};
 ghost use lib.ListN.{length};
+ghost use Rattle.lists.specs.Rows.{Stored};
 ghost use Rattle.sketch.specs.Sketches.{Sound};
-ghost use Rattle.line.specs.Texts.{Stored};
-ghost use Rattle.evening.specs.Replies.{noPot, Sits, Room, Tells, refusal, kept, says, estimateText, openReply, addReply, estimateReply, countReply, nextReply, replyOf};
+ghost use Rattle.evening.specs.Replies.{noPot, Sits, Room, Tells, refusal, kept, says, estimateText, openReply, addReply, estimateReply, countReply};
+ghost use Rattle.evening.specs.Replies.{nextReply, replyOf};
 ghost use Rattle.evening.specs.Runs.{beginning, Sitting, Feeds, rest};
 use line::commands::Command;
 use rule::Settings;
 use rule::answers::Answer;
 use rule::answers::Counted;
 use rule::answers::Found;
+use rule::refusals::BAD_LINE;
+use rule::refusals::NOT_ONE;
+use sketch::PLACES;
 use sketch::Sketch;
+use sketch::parts::Head;
+use sketch::parts::Tried;
 
 // The open sketch; all zeros where none has been opened yet.
 pub struct Pot {
@@ -97,27 +103,41 @@ fn answer_add(pot: Pot, lo: u32, hi: u32, out: &mut [u8], at: usize) -> Told
     requires { ⌜ Sits pot × Room (now out) at ⌝ }
     ensures { λ r. ⌜ Tells (now (out .entry)) at (addReply pot lo hi) (now (out .exit)) r ⌝ }
 {
-    if !pot.opened {
-        return refuse(pot, 4, out, at);
-    }
     let sketch = pot.sketch;
-    if !find::in_range(sketch.settings, lo, hi) {
-        return refuse(pot, 2, out, at);
+    let settings = sketch.settings;
+    let head = Head {
+        known: pot.opened,
+        settings,
+        level: sketch.level,
+        count: sketch.count,
+    };
+    let mut cells = [0u32; PLACES];
+    let tried = sketch::parts::try_add(&mut cells, head, &sketch.cells, lo, hi);
+    match tried {
+        Tried::Kept { level, count } => {
+            let next = Sketch {
+                settings,
+                level,
+                count,
+                cells,
+            };
+            keep(next, out, at)
+        }
+        Tried::Refused(refusal) => refuse(pot, refusal, out, at),
     }
-    keep(sketch.add_good(lo, hi), out, at)
 }
 
 // `E exact v` or `E about v`
 fn put_estimate(sketch: Sketch, out: &mut [u8], at: usize) -> usize
     requires { ⌜ Sound sketch × Room (now out) at ⌝ }
-    ensures { λ r. ⌜ Stored (now (out .entry)) at (estimateText sketch) (now (out .exit)) r ⌝ }
+    ensures { λ r. ⌜ Stored (now (out .entry)) at (estimateText sketch) r (now (out .exit)) ⌝ }
 {
     let level = sketch.level;
-    let count = sketch.count as u64;
+    let count = sketch.count;
     if level == 0 {
-        return line::put_exact(out, at, count);
+        return line::put_exact(out, at, count as u64);
     }
-    line::put_about(out, at, count << level)
+    line::put_about(out, at, sketch::stands_at(level, count))
 }
 
 // `E`
@@ -126,7 +146,7 @@ fn answer_estimate(pot: Pot, out: &mut [u8], at: usize) -> Told
     ensures { λ r. ⌜ Tells (now (out .entry)) at (estimateReply pot) (now (out .exit)) r ⌝ }
 {
     if !pot.opened {
-        return refuse(pot, 4, out, at);
+        return refuse(pot, NOT_ONE, out, at);
     }
     let next = put_estimate(pot.sketch, out, at);
     Told { pot, next }
@@ -138,7 +158,7 @@ fn answer_count(pot: Pot, level: u32, lo: u32, hi: u32, out: &mut [u8], at: usiz
     ensures { λ r. ⌜ Tells (now (out .entry)) at (countReply pot level lo hi) (now (out .exit)) r ⌝ }
 {
     if !pot.opened {
-        return refuse(pot, 4, out, at);
+        return refuse(pot, NOT_ONE, out, at);
     }
     let counted = find::count(pot.sketch.settings, level, lo, hi);
     match counted {
@@ -156,7 +176,7 @@ fn answer_next(pot: Pot, level: u32, from: u32, out: &mut [u8], at: usize) -> To
     ensures { λ r. ⌜ Tells (now (out .entry)) at (nextReply pot level from) (now (out .exit)) r ⌝ }
 {
     if !pot.opened {
-        return refuse(pot, 4, out, at);
+        return refuse(pot, NOT_ONE, out, at);
     }
     let found = find::next_hit(pot.sketch.settings, level, from);
     match found {
@@ -199,7 +219,7 @@ pub fn answer(pot: Pot, text: &[u8], out: &mut [u8], at: usize) -> Told
         Command::Estimate => answer_estimate(pot, out, at),
         Command::Count { level, lo, hi } => answer_count(pot, level, lo, hi, out, at),
         Command::Next { level, from } => answer_next(pot, level, from, out, at),
-        Command::Unknown => refuse(pot, 9, out, at),
+        Command::Unknown => refuse(pot, BAD_LINE, out, at),
     }
 }
 
@@ -238,7 +258,7 @@ pub fn feed(evening: Evening, input: &[u8], out: &mut [u8]) -> Fed
 // The answer to a last line without a newline, and how many bytes it has.
 pub fn finish(evening: Evening, out: &mut [u8]) -> usize
     requires { ⌜ Sitting evening × Room (now out) 0 ⌝ }
-    ensures { λ r. ⌜ Stored (now (out .entry)) 0 (rest evening) (now (out .exit)) r ⌝ }
+    ensures { λ r. ⌜ Stored (now (out .entry)) 0 (rest evening) r (now (out .exit)) ⌝ }
 {
     let length = evening.length;
     if length == 0 {

@@ -1,23 +1,24 @@
 -- The laws of the tests that come before an answer.
 --     denied, granted     what a call's promise says where its answer was tested
 --     and-parts           two tests that hold together
---     settings-refused, level-refused, range-refused, none-refused    the refusals 1, 3, 2 in this order, and the answer after them
+--     settings-first, level-second, range-third, none-left    the refusals 1, 3, 2 in this order, and then none
 --     unless-told, all-told     an answer says that the tests held
+--     refused-so, answered-so, all-held    what the number of its refusal says of a call
 --     range-facts     a range's test as facts
 --     within-range, within-cell     what passes the tests is what the inner calls take
 -- Assumes nothing.
 use mathlib.Core.Path.{_≡_, refl, sym, _∙_}
 use mathlib.Core.Bool.{Bool, true, false, not, _&&_, false≢true}
-use mathlib.Core.List.{List}
+use mathlib.Core.List.{List, []}
 use Prim.Native.Nat.{ℕ, _≤_}
 use native.Mathlib.Omega.{arith}
 use lib.Dec.{leb}
-use borrow.Author.Tests.{leb-true, not-true, not-false}
+use borrow.Author.Tests.{leb-true, eq-eqb, ne-eqb, not-true, not-false}
 use Rattle.rule.specs.declared.Settings.{Settings}
 use Rattle.rule.specs.Rule.{isGood, top}
 use Rattle.rule.specs.Refusals.{Paper, answered, refused, unless, badSettings, badLevel, badRange}
 use Rattle.rule.proofs.Facts.{good-facts}
-use Rattle.find.specs.Finding.{isCell, inRange, atLevel, Within}
+use Rattle.find.specs.Finding.{isCell, inRange, onSettings, Refuses, Within}
 
 -- t is the call's answer, and d what it is promised to be
 pub denied : (t d : Bool) → t ≡ d → not t ≡ true → d ≡ false
@@ -30,30 +31,41 @@ pub and-parts : (t u : Bool) → (t && u) ≡ true → (t ≡ true) × (u ≡ tr
 and-parts true u e = (refl, e)
 and-parts false u e = absurd (false≢true e)
 
-module _ (s : Settings) (level : ℕ) where
-  pub settings-refused : (x : Paper) → isGood s ≡ false → refused badSettings 0 ≡ atLevel s level x
-  settings-refused x g = cc
+-- the number that the tests in order give
+pub settings-first : (s : Settings) (level : ℕ) (t : Bool) → isGood s ≡ false → Refuses s level t badSettings
+settings-first s level t g = record { so = λ x. cc }
 
-  pub level-refused : (x : Paper) → isGood s ≡ true → leb level (top s) ≡ false → refused badLevel 0 ≡ atLevel s level x
-  level-refused x g l = cc
+pub level-second : (s : Settings) (level : ℕ) (t : Bool) → isGood s ≡ true → leb level (top s) ≡ false → Refuses s level t badLevel
+level-second s level t g l = record { so = λ x. cc }
 
-  pub range-refused : (t : Bool) (x : Paper) → isGood s ≡ true → leb level (top s) ≡ true → t ≡ false → refused badRange 0 ≡ atLevel s level (unless t badRange x)
-  range-refused t x g l r = cc
+pub range-third : (s : Settings) (level : ℕ) (t : Bool) → isGood s ≡ true → leb level (top s) ≡ true → t ≡ false → Refuses s level t badRange
+range-third s level t g l r = record { so = λ x. cc }
 
-  pub none-refused : (t : Bool) (x : Paper) → isGood s ≡ true → leb level (top s) ≡ true → t ≡ true → x ≡ atLevel s level (unless t badRange x)
-  none-refused t x g l r = cc
+pub none-left : (s : Settings) (level : ℕ) (t : Bool) → isGood s ≡ true → leb level (top s) ≡ true → t ≡ true → Refuses s level t 0
+none-left s level t g l r = record { so = λ x. cc }
 
 pub unless-told : (t : Bool) (number : ℕ) (x : Paper) (values : List ℕ) → unless t number x ≡ answered values → (t ≡ true) × (x ≡ answered values)
 unless-told true number x values e = (refl, e)
 unless-told false number x values e = let z : _≡_ {A = ℕ} 0 1 = cc in absurd (omega arith)
 
-pub all-told : (s : Settings) (level : ℕ) (t : Bool) (x : Paper) (values : List ℕ) → atLevel s level (unless t badRange x) ≡ answered values
+pub all-told : (s : Settings) (level : ℕ) (t : Bool) (x : Paper) (values : List ℕ) → onSettings s level t x ≡ answered values
     → (isGood s ≡ true) × (leb level (top s) ≡ true) × (t ≡ true) × (x ≡ answered values)
 all-told s level t x values e =
     let g = unless-told (isGood s) badSettings (unless (leb level (top s)) badLevel (unless t badRange x)) values e in
     let l = unless-told (leb level (top s)) badLevel (unless t badRange x) values (g .1) in
     let r = unless-told t badRange x values (l .1) in
     (g .0, l .0, r .0, r .1)
+
+-- t is the range's test as a call made it, and d what that is promised to be
+module _ {s : Settings} {level number : ℕ} {t d : Bool} (e : t ≡ d) (r : Refuses s level t number) where
+  pub refused-so : (x : Paper) → ¬ (number ≡ 0) → refused number 0 ≡ onSettings s level d x
+  refused-so x n = let z = ne-eqb number 0 n in let y = r .so x in cc
+
+  pub answered-so : (x : Paper) → number ≡ 0 → x ≡ onSettings s level d x
+  answered-so x n = let z = eq-eqb number 0 n in let y = r .so x in cc
+
+  pub all-held : number ≡ 0 → (isGood s ≡ true) × (d ≡ true)
+  all-held n = let t = all-told s level d (answered []) [] (sym (answered-so (answered []) n)) in (t .0, t .2)
 
 pub range-facts : (s : Settings) (lo hi : ℕ) → inRange s lo hi ≡ true → (1 ≤ lo) × (lo ≤ hi) × (hi ≤ s .n)
 range-facts s lo hi e =

@@ -18,14 +18,15 @@ use native.Mathlib.Omega.{arith}
 use native.Mathlib.Nat.{mod-lt, mod-add-mod, div-le-self}
 use lib.Dec.{ltb}
 use lib.ListN.{length, length-append}
+use Rattle.lists.specs.Lists.{keep, filter, run, range}
+use Rattle.lists.proofs.Filters.{filter-append}
+use Rattle.lists.proofs.Runs.{run-append, range-suc}
 use Rattle.rule.specs.declared.Settings.{Settings}
-use Rattle.rule.specs.Cells.{keep, filter, run, range}
 use Rattle.rule.specs.Rule.{Good, hash, region, passes}
 use Rattle.rule.specs.Samples.{rangeCount, nextHit, first}
-use Rattle.rule.proofs.Lists.{filter-append, run-append}
 use Rattle.rule.proofs.Facts.{positive}
 use Rattle.rule.proofs.Passing.{passes-zero}
-use Rattle.rule.proofs.Rows.{range-suc, walk-none}
+use Rattle.rule.proofs.NextHits.{walk-none}
 use Rattle.count.specs.Hits.{hit, hitsUp, hitsDown, Takes}
 use Rattle.count.proofs.Laws.{hits-few, turned-up}
 use Rattle.find.specs.declared.Hashes.{Hashes}
@@ -67,7 +68,9 @@ run-hits : (s : Settings) (level lo k : ℕ) → length (filter (passes s level)
 unfolding hitsUp
 run-hits s level lo zero = refl
 run-hits s level lo (suc k) =
-    omega (arith, run-hits s level lo k, ap length (range-suc (passes s level) lo k), length-append (filter (passes s level) (run lo k)) (keep (passes s level (lo + k)) (lo + k) []), one-hit s level lo k)
+    let X = passes s level in
+    let both = length-append (filter X (run lo k)) (keep (X (lo + k)) (lo + k) []) in
+    omega (arith, run-hits s level lo k, ap length (range-suc X lo k), both, one-hit s level lo k)
 
 pub count-hits : (s : Settings) (level lo hi : ℕ) → rangeCount s level lo hi ≡ hitsUp (s .p) (s .a) (hash s lo) (suc hi - lo) (region s level)
 unfolding rangeCount

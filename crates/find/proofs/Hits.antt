@@ -14,16 +14,18 @@ use Prim.Native.Nat.{ℕ, suc, _+_, _-_, _*_, _%_, _≤_, _<_}
 use native.Mathlib.Omega.{arith}
 use lib.Dec.{leb, ltb, eqb}
 use borrow.Author.Tests.{leb-true, eqb-true}
+use Rattle.lists.specs.Lists.{keep, filter, run}
+use Rattle.lists.proofs.Filters.{filter-none, filter-append}
+use Rattle.lists.proofs.Runs.{run-append, listed-run}
 use Rattle.rule.specs.declared.Settings.{Settings}
-use Rattle.rule.specs.Cells.{Cells, keep, filter, run}
+use Rattle.rule.specs.Cells.{Cells}
 use Rattle.rule.specs.Rule.{Good, region, passes}
 use Rattle.rule.specs.Samples.{nextHit, first}
 use Rattle.rule.specs.Refusals.{answered}
 use Rattle.rule.proofs.Facts.{positive}
 use Rattle.rule.proofs.Passing.{passes-zero}
-use Rattle.rule.proofs.Rows.{next-some}
-use Rattle.rule.proofs.Lists.{filter-none, filter-append, run-append, listed-run}
-use Rattle.next.specs.Hit.{Answer, Takes}
+use Rattle.rule.proofs.NextHits.{next-some}
+use Rattle.next.specs.Hit.{Answer, Progression}
 use Rattle.next.specs.declared.Found.{Found}
 use Rattle.next.specs.declared.Found.the-variants.{At, Nothing}
 use Rattle.next.proofs.Laws.{answer-at, answer-nothing}
@@ -62,9 +64,10 @@ first-cell s level lo hi g e =
     ∙ ap (λ (b : Bool). first (keep b lo (filter (passes s 0) (run (suc lo) (hi - lo))))) (passes-zero s lo (positive s g))
 
 module _ (s : Settings) (level lo hi : ℕ) (h : Hashes) (f : Handed s level lo hi h) where
-  pub next-takes : Within s lo hi → Takes (h .p) (h .a) (h .start) × (h .cells ≤ 4000000000)
+  pub next-takes : Within s lo hi → Progression (h .p) (h .a) (h .start) × (h .cells ≤ 4000000000)
   next-takes v =
-      (record { small = omega (arith, v .good .n-high, v .good .p-high); step = omega (arith, v .good .a-high); start = omega (arith, hash-below s lo (v .good)) }, omega (arith, v .good .n-high))
+      let start : h .start < h .p = omega (arith, hash-below s lo (v .good)) in
+      (record { small = omega (arith, v .good .n-high, v .good .p-high); step = omega (arith, v .good .a-high); start = start }, omega (arith, v .good .n-high))
 
   pub hit-passes : (i : ℕ) → passes s level (lo + i) ≡ ltb ((h .start + i * h .a) % h .p) (h .size)
   unfolding passes
@@ -79,7 +82,8 @@ module _ (s : Settings) (level lo hi : ℕ) (h : Hashes) (f : Handed s level lo 
   pub found-nothing : (x : Found) → Answer (h .p) (h .a) (h .start) (h .size) (h .cells) x → x ≡ Nothing → nextHit s level lo hi ≡ none
   unfolding nextHit
   found-nothing x g e =
-      ap first (run-none (passes s level) lo (suc hi - lo) (λ i b. hit-passes i ∙ answer-nothing (h .p) (h .a) (h .start) (h .size) (h .cells) x g e i (rw (f .cells) b)))
+      ap first (run-none (passes s level) lo (suc hi - lo) (λ i b.
+      hit-passes i ∙ answer-nothing (h .p) (h .a) (h .start) (h .size) (h .cells) x g e i (rw (f .cells) b)))
 
 -- an answer with a cell, and one with none
 pub hit-some : (o : Option ℕ) (x : ℕ) → answered (x ∷ []) ≡ answered (hits o) → o ≡ some x

@@ -4,5 +4,3 @@ pub mod Counting
 pub mod Hits
 pub mod Walks
 pub mod Tight
-pub mod Moves
-pub mod Gaps

@@ -1,5 +1,5 @@
--- Two outcomes that one promise allows coincide.
---     promise-tight               where the promise is an equation, as those of `in_range`, `is_cell`, `Walker::good` and `count_in` are
+-- Two outcomes that one promise allows coincide. Of a promise that is an equation, as those of `in_range`, `is_cell`, `Walker::good`
+-- and `count_in` are, that is `equation-tight` of rule/proofs/Readings.antt.
 --     count-tight, next-tight, open-tight, step-tight, first-tight    `count`, `next_hit`, `Walker::open`, `Walker::step`, `first_in`
 -- Assumes nothing.
 use mathlib.Core.Path.{_≡_, sym, ap, _∙_}
@@ -17,16 +17,14 @@ use Rattle.find.specs.declared.Stepped.{Stepped}
 use Rattle.find.specs.Finding.{countOn, nextOn, hits}
 use Rattle.find.specs.Walking.{Starts, Steps}
 
-pub promise-tight : {A : Type 0} (x y promised : A) → x ≡ promised → y ≡ promised → x ≡ y
-promise-tight x y promised e f = e ∙ sym f
-
 pub count-tight : (s : Settings) (level lo hi : ℕ) (x y : Counted) → ofCounted x ≡ countOn s level lo hi → ofCounted y ≡ countOn s level lo hi → x ≡ y
 count-tight s level lo hi x y e f = counted-one x y (e ∙ sym f)
 
 pub next-tight : (s : Settings) (level from : ℕ) (x y : Found) → ofFound x ≡ nextOn s level from → ofFound y ≡ nextOn s level from → x ≡ y
 next-tight s level from x y e f = found-one x y (e ∙ sym f)
 
-pub first-tight : (s : Settings) (level lo hi : ℕ) (x y : Found) → ofFound x ≡ answered (hits (nextHit s level lo hi)) → ofFound y ≡ answered (hits (nextHit s level lo hi)) → x ≡ y
+pub first-tight : (s : Settings) (level lo hi : ℕ) (x y : Found)
+    → ofFound x ≡ answered (hits (nextHit s level lo hi)) → ofFound y ≡ answered (hits (nextHit s level lo hi)) → x ≡ y
 first-tight s level lo hi x y e f = found-one x y (e ∙ sym f)
 
 pub open-tight : (s : Settings) (level lo hi : ℕ) (x y : Started) → Starts s level lo hi x → Starts s level lo hi y → x ≡ y

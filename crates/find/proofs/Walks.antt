@@ -21,8 +21,8 @@ use native.Mathlib.Numerals.{add-one}
 use lib.Dec.{leb}
 use lib.ListN.{length}
 use borrow.Author.Tests.{leb-true, le-leb}
+use Rattle.lists.specs.Lists.{filter, range}
 use Rattle.rule.specs.declared.Settings.{Settings}
-use Rattle.rule.specs.Cells.{filter, range}
 use Rattle.rule.specs.Rule.{Good, isGood, passes, top}
 use Rattle.rule.specs.Samples.{rangeCount, nextHit}
 use Rattle.rule.specs.Refusals.{Paper, answered, refused, notOne, ofAnswer, ofFound}
@@ -30,7 +30,7 @@ use Rattle.rule.specs.declared.answers.Answer.the-variants as answer
 use Rattle.rule.specs.declared.answers.Found.{Found}
 use Rattle.rule.specs.declared.answers.Found.the-variants as found
 use Rattle.rule.proofs.Facts.{good-facts, facts-good}
-use Rattle.rule.proofs.Rows.{next-some, walk-some, walk-none}
+use Rattle.rule.proofs.NextHits.{next-some, walk-some, walk-none}
 use Rattle.find.specs.declared.Walker.{Walker}
 use Rattle.find.specs.Finding.{isCell, inRange, Within, hits}
 use Rattle.find.specs.Walking.{walkerAt, noWalker, startOn, started, Starts, isWalker, stepOn, moved, afterStep, Steps, yielded, walk}
@@ -87,16 +87,19 @@ pub tests-not : (w : Walker) → isGood (w .settings) ≡ false → false ≡ is
 unfolding isWalker
 tests-not w g = cc
 
-pub tests-all : (w : Walker) (l h : Bool) (x y : ℕ) → isGood (w .settings) ≡ true → l ≡ leb (w .level) (top (w .settings)) → h ≡ isCell (w .settings) (w .hi) → x ≡ w .at → y ≡ w .hi
+pub tests-all : (w : Walker) (l h : Bool) (x y : ℕ) → isGood (w .settings) ≡ true
+    → l ≡ leb (w .level) (top (w .settings)) → h ≡ isCell (w .settings) (w .hi) → x ≡ w .at → y ≡ w .hi
     → (l && (h && (leb 1 (w .at) && leb x (y + 1)))) ≡ isWalker w
 unfolding isWalker
 tests-all w l h x y g el eh ex ey = cc
 
 -- opening, refused and not
-pub starts-refused : (s : Settings) (level lo hi number : ℕ) (r : Started) → (ofAnswer (r .answer) ≡ refused number 0) × (r .walker ≡ noWalker) → refused number 0 ≡ startOn s level lo hi → Starts s level lo hi r
+pub starts-refused : (s : Settings) (level lo hi number : ℕ) (r : Started)
+    → (ofAnswer (r .answer) ≡ refused number 0) × (r .walker ≡ noWalker) → refused number 0 ≡ startOn s level lo hi → Starts s level lo hi r
 starts-refused s level lo hi number r h e = record { answer = h .0 ∙ e; walker = h .1 ∙ ap (λ (a : Paper). started a (walkerAt s level lo hi)) e }
 
-pub starts-done : (s : Settings) (level lo hi : ℕ) → answered [] ≡ startOn s level lo hi → Starts s level lo hi (record { answer = answer.Done; walker = walkerAt s level lo hi })
+pub starts-done : (s : Settings) (level lo hi : ℕ) → answered [] ≡ startOn s level lo hi
+    → Starts s level lo hi (record { answer = answer.Done; walker = walkerAt s level lo hi })
 starts-done s level lo hi e = record { answer = e; walker = ap (λ (a : Paper). started a (walkerAt s level lo hi)) e }
 
 pub start-good : (s : Settings) (level lo hi : ℕ) → startOn s level lo hi ≡ answered [] → isWalker (walkerAt s level lo hi) ≡ true
@@ -105,7 +108,14 @@ start-good s level lo hi e =
     let t = all-told s level (inRange s lo hi) (answered []) [] e in
     let f = range-facts s lo hi (t .2) in
     facts-walker (walkerAt s level lo hi)
-    (record { good = good-facts s (t .0); level = leb-true _ _ (t .1); some-cell = omega (arith, f .0, f .1); last = f .2; low = f .0; start = omega (arith, f .1) })
+    (record {
+      good = good-facts s (t .0);
+      level = leb-true _ _ (t .1);
+      some-cell = omega (arith, f .0, f .1);
+      last = f .2;
+      low = f .0;
+      start = omega (arith, f .1);
+    })
 
 -- the next hit of a walker
 abbrev pub ahead : Walker → Option ℕ

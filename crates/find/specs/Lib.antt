@@ -1,4 +1,3 @@
 -- The definitions that the contracts cite.
 pub mod Finding
 pub mod Walking
-pub mod Striding

@@ -4,13 +4,16 @@ ghost use Prim.Native.Nat.{_^_, _<_, _≤_};
 ghost use Rattle.rule.specs.Rule.{Good};
 ghost use Rattle.rule.specs.Samples.{rangeCount, nextHit};
 ghost use Rattle.rule.specs.Refusals.{answered, refused, ofAnswer, ofCounted, ofFound};
-ghost use Rattle.find.specs.Finding.{isCell, inRange, countOn, nextOn, hits, Within, Handed};
-ghost use Rattle.find.specs.Striding.{Least, Striding, IsHit, Next};
+ghost use Rattle.find.specs.Finding.{isCell, inRange, Refuses, countOn, nextOn, hits, Within, Handed};
 ghost use Rattle.find.specs.Walking.{Starts, Steps, isWalker, noWalker};
 use rule::Settings;
 use rule::answers::Answer;
 use rule::answers::Counted;
 use rule::answers::Found;
+use rule::refusals::BAD_LEVEL;
+use rule::refusals::BAD_RANGE;
+use rule::refusals::BAD_SETTINGS;
+use rule::refusals::NOT_ONE;
 
 fn wide(x: u32) -> u64
     ensures { λ r. ⌜ (r ≡ x) × (x < 2 ^ 32) ⌝ }
@@ -47,7 +50,7 @@ fn progression(settings: Settings, level: u32, lo: u32, hi: u32) -> Hashes
     Hashes {
         p: wide(settings.p),
         a: wide(settings.a),
-        start: wide(settings.hash(lo)),
+        start: settings.hash(lo),
         cells: wide(hi) + 1 - wide(lo),
         size: wide(settings.region(level)),
     }
@@ -87,107 +90,30 @@ pub fn first_in(settings: Settings, level: u32, lo: u32, hi: u32) -> Found
     }
 }
 
-// A distance between cells, and by how much it changes the hash.
-pub struct Stride {
-    pub distance: u32,
-    pub change: u32,
-}
-
-impl Stride {
-    // The least distance up to `far` after which a hash that grows by a, modulo p, with each cell
-    // has grown by less than `size`. Where there is none: one past `far`, with the change `size`.
-    fn least(p: u32, a: u32, size: u32, far: u32) -> Stride
-        requires { ⌜ (p ≤ 4000000000) × (a < p) × (far < 4000000000) ⌝ }
-        ensures { λ r. ⌜ Least p a size far r ⌝ }
-    {
-        let modulus = wide(p);
-        let step = wide(a);
-        match next::next_hit(modulus, step, step, wide(size), wide(far)) {
-            next::Found::At(i) => {
-                let d = i + 1;
-                Stride {
-                    distance: d as u32,
-                    change: (d * step % modulus) as u32,
-                }
-            }
-            next::Found::Nothing => Stride {
-                distance: far + 1,
-                change: size,
-            },
-        }
+// The number of the refusal of a call on settings, 0 where there is none. `inside` says whether the
+// call's range is right.
+fn first_refusal(settings: Settings, level: u32, inside: bool) -> u32
+    ensures { λ r. ⌜ Refuses settings level inside r ⌝ }
+{
+    if !settings.good() {
+        return BAD_SETTINGS;
     }
-}
-
-// A passing cell, with its hash.
-pub struct Hit {
-    pub cell: u32,
-    pub hash: u32,
-}
-
-// The size of a level's region, with the least distance that raises the hash of a hit by less than
-// it, and the least that lowers the hash so.
-pub struct Strides {
-    pub size: u32,
-    pub up: Stride,
-    pub down: Stride,
-}
-
-impl Strides {
-    pub fn of(settings: Settings, level: u32, far: u32) -> Strides
-        requires { ⌜ Good settings × (far ≤ settings .n) ⌝ }
-        ensures { λ r. ⌜ Striding settings level far r ⌝ }
-    {
-        let p = settings.p;
-        let a = settings.a;
-        let size = settings.region(level);
-        Strides {
-            size,
-            up: Stride::least(p, a, size, far),
-            down: Stride::least(p, p - a, size, far),
-        }
+    if !settings.has_level(level) {
+        return BAD_LEVEL;
     }
-
-    // The next hit after one: where the hash can neither rise nor fall and stay in the region, it
-    // does both. Only the contract needs the settings, the level and `far`.
-    pub fn next(self, settings: Settings, level: u32, far: u32, hit: Hit) -> Hit
-        requires { ⌜ Good settings × Striding settings level far self × IsHit settings level hit × (hit .cell ≤ settings .n) × (far ≤ settings .n) ⌝ }
-        ensures { λ r. ⌜ Next settings level far hit r ⌝ }
-    {
-        let up = self.up;
-        let down = self.down;
-        let x = hit.cell;
-        let h = hit.hash;
-        if h < self.size - up.change {
-            Hit {
-                cell: x + up.distance,
-                hash: h + up.change,
-            }
-        } else if down.change <= h {
-            Hit {
-                cell: x + down.distance,
-                hash: h - down.change,
-            }
-        } else {
-            Hit {
-                cell: x + (up.distance + down.distance),
-                hash: up.change - (down.change - h),
-            }
-        }
+    if !inside {
+        return BAD_RANGE;
     }
+    0
 }
 
 // How many cells of lo..hi pass at a level.
 pub fn count(settings: Settings, level: u32, lo: u32, hi: u32) -> Counted
     ensures { λ r. ⌜ ofCounted r ≡ countOn settings level lo hi ⌝ }
 {
-    if !settings.good() {
-        return Counted::Refused(1);
-    }
-    if !settings.has_level(level) {
-        return Counted::Refused(3);
-    }
-    if !in_range(settings, lo, hi) {
-        return Counted::Refused(2);
+    let number = first_refusal(settings, level, in_range(settings, lo, hi));
+    if number != 0 {
+        return Counted::Refused(number);
     }
     Counted::Count(count_in(settings, level, lo, hi))
 }
@@ -196,14 +122,9 @@ pub fn count(settings: Settings, level: u32, lo: u32, hi: u32) -> Counted
 pub fn next_hit(settings: Settings, level: u32, from: u32) -> Found
     ensures { λ r. ⌜ ofFound r ≡ nextOn settings level from ⌝ }
 {
-    if !settings.good() {
-        return Found::Refused(1);
-    }
-    if !settings.has_level(level) {
-        return Found::Refused(3);
-    }
-    if !is_cell(settings, from) {
-        return Found::Refused(2);
+    let number = first_refusal(settings, level, is_cell(settings, from));
+    if number != 0 {
+        return Found::Refused(number);
     }
     first_in(settings, level, from, settings.n)
 }
@@ -233,13 +154,7 @@ fn not_started(number: u32) -> Started
     Started {
         answer: Answer::Refused(number),
         walker: Walker {
-            settings: Settings {
-                n: 0,
-                p: 0,
-                a: 0,
-                b: 0,
-                capacity: 0,
-            },
+            settings: rule::no_settings(),
             level: 0,
             at: 0,
             hi: 0,
@@ -251,14 +166,9 @@ impl Walker {
     pub fn open(settings: Settings, level: u32, lo: u32, hi: u32) -> Started
         ensures { λ r. ⌜ Starts settings level lo hi r ⌝ }
     {
-        if !settings.good() {
-            return not_started(1);
-        }
-        if !settings.has_level(level) {
-            return not_started(3);
-        }
-        if !in_range(settings, lo, hi) {
-            return not_started(2);
+        let number = first_refusal(settings, level, in_range(settings, lo, hi));
+        if number != 0 {
+            return not_started(number);
         }
         Started {
             answer: Answer::Done,
@@ -288,7 +198,7 @@ impl Walker {
     {
         if !self.good() {
             return Stepped {
-                found: Found::Refused(4),
+                found: Found::Refused(NOT_ONE),
                 walker: self,
             };
         }

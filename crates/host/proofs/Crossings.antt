@@ -3,7 +3,7 @@
 --     row-again, walker-row-again    and a row of 511 numbers from its sketch, a row of eight from its walker: so a refused row is unchanged
 --     zero-row, zero-walker-row    the rows of all zeros
 --     head-stored, cells-stored, cells-lent    a row, as the code stores it in two parts
---     parts-in, kept-in    a sketch's parts, as the code lends them
+--     parts-in, known-in    a sketch's parts, as the code lends them
 -- Assumes nothing.
 use mathlib.Core.Path.{_≡_, refl, sym, ap, _∙_, subst}
 use mathlib.Core.List.{List, [], _∷_, _++_, append-nil}
@@ -11,21 +11,25 @@ use Prim.Native.Nat.{ℕ, _+_, _-_, _<_}
 use native.Mathlib.Omega.{arith}
 use lib.Seq.{length-take-le, drop-append-seam}
 use lib.ListN.{length, take, drop, set, getD, replicate, length-drop, drop-of-length-le}
+use Rattle.lists.specs.Rows.{Stored}
+use Rattle.lists.proofs.Steps.{next, part-rest}
 use Rattle.rule.specs.declared.Settings.{Settings}
-use Rattle.rule.proofs.Steps.{next, part-rest}
 use Rattle.find.specs.declared.Walker.{Walker}
 use Rattle.find.specs.Walking.{noWalker}
-use Rattle.rows.specs.Walked.{Stored}
 use Rattle.sketch.specs.declared.Sketch.{Sketch}
+use Rattle.sketch.specs.declared.parts.Head.{Head}
 use Rattle.sketch.specs.Sketches.{held, sketchAt}
 use Rattle.sketch.specs.Calls.{noSketch}
-use Rattle.host.specs.Crossing.{settingsRow, settingsIn, rowOf, sketchIn, walkerRow, walkerIn}
+use Rattle.sketch.specs.Trying.{Known}
+use Rattle.sketch.proofs.Facts.{sketch-facts}
+use Rattle.sketch.proofs.Handing.{known-head}
+use Rattle.host.specs.Crossing.{settingsRow, settingsFrom, sketchRow, sketchIn, headIn, walkerRow, walkerIn}
 
-pub settings-again : (s : Settings) → settingsIn (settingsRow s) ≡ s
+pub settings-again : (s : Settings) → settingsFrom (settingsRow s) ≡ s
 settings-again s = refl
 
-pub sketch-again : (k : Sketch) → sketchIn (rowOf k) ≡ k
-unfolding sketchIn rowOf
+pub sketch-again : (k : Sketch) → sketchIn (sketchRow k) ≡ k
+unfolding sketchIn sketchRow
 sketch-again k = refl
 
 pub walker-again : (w : Walker) → walkerIn (walkerRow w) ≡ w
@@ -36,21 +40,30 @@ walker-again w = refl
 seven : (row : List ℕ) → 7 < length row
     → getD row 0 0 ∷ getD row 1 0 ∷ getD row 2 0 ∷ getD row 3 0 ∷ getD row 4 0 ∷ getD row 5 0 ∷ getD row 6 0 ∷ drop 7 row ≡ row
 seven row h =
-    cc (next row 0 (omega arith), next row 1 (omega arith), next row 2 (omega arith), next row 3 (omega arith), next row 4 (omega arith), next row 5 (omega arith), next row 6 (omega arith))
+    cc (
+      next row 0 (omega arith),
+      next row 1 (omega arith),
+      next row 2 (omega arith),
+      next row 3 (omega arith),
+      next row 4 (omega arith),
+      next row 5 (omega arith),
+      next row 6 (omega arith),
+    )
 
-pub row-again : (row : List ℕ) → length row ≡ 511 → rowOf (sketchIn row) ≡ row
-unfolding sketchIn rowOf
+pub row-again : (row : List ℕ) → length row ≡ 511 → sketchRow (sketchIn row) ≡ row
+unfolding sketchIn sketchRow
 row-again row e = seven row (omega arith)
 
 pub walker-row-again : (row : List ℕ) → length row ≡ 8 → walkerRow (walkerIn row) ≡ row
 unfolding walkerIn walkerRow
 walker-row-again row e =
-    let last : drop 7 row ≡ getD row 7 0 ∷ [] = next row 7 (omega arith) ∙ ap (λ (l : List ℕ). getD row 7 0 ∷ l) (drop-of-length-le row {i = 8} (omega arith)) in
+    let last : drop 7 row ≡ getD row 7 0 ∷ [] = next row 7 (omega arith)
+    ∙ ap (λ (l : List ℕ). getD row 7 0 ∷ l) (drop-of-length-le row {i = 8} (omega arith)) in
     rw (← last) (seven row (omega arith))
 
 -- what comes back where opening or reading is refused
-pub zero-row : rowOf noSketch ≡ replicate 511 0
-unfolding rowOf sketchAt
+pub zero-row : sketchRow noSketch ≡ replicate 511 0
+unfolding sketchRow sketchAt
 zero-row = refl
 
 pub zero-walker-row : walkerRow noWalker ≡ replicate 8 0
@@ -59,11 +72,13 @@ zero-walker-row = refl
 
 -- the seven numbers stored one by one
 pub head-stored : (row : List ℕ) (s : Settings) (level count : ℕ) → length row ≡ 511
-    → set (set (set (set (set (set (set row 0 (s .n)) 1 (s .p)) 2 (s .a)) 3 (s .b)) 4 (s .capacity)) 5 level) 6 count ≡ rowOf (held s level count (drop 7 row))
-unfolding rowOf
+    → set (set (set (set (set (set (set row 0 (s .n)) 1 (s .p)) 2 (s .a)) 3 (s .b)) 4 (s .capacity)) 5 level) 6 count ≡ sketchRow
+    (held s level count (drop 7 row))
+unfolding sketchRow
 head-stored row s level count e =
     subst
-    (λ (v : List ℕ). set (set (set (set (set (set (set v 0 (s .n)) 1 (s .p)) 2 (s .a)) 3 (s .b)) 4 (s .capacity)) 5 level) 6 count ≡ rowOf (held s level count (drop 7 v)))
+    (λ (v : List ℕ). set (set (set (set (set (set (set v 0 (s .n)) 1 (s .p)) 2 (s .a)) 3 (s .b)) 4 (s .capacity)) 5 level) 6 count
+    ≡ sketchRow (held s level count (drop 7 v)))
     (seven row (omega arith))
     refl
 
@@ -71,24 +86,27 @@ head-stored row s level count e =
 behind : (row cells rest : List ℕ) → length row ≡ 511 → rest ≡ [] → drop 7 (take 7 row ++ (cells ++ rest)) ≡ cells
 behind row cells rest e none =
     let seam : length (take 7 row) ≡ 7 = length-take-le 7 row (omega arith) in
-    ap (λ (k : ℕ). drop k (take 7 row ++ (cells ++ rest))) (sym seam) ∙ drop-append-seam (take 7 row) (cells ++ rest) ∙ ap (λ (l : List ℕ). cells ++ l) none ∙ append-nil cells
+    ap (λ (k : ℕ). drop k (take 7 row ++ (cells ++ rest))) (sym seam) ∙ drop-append-seam (take 7 row) (cells ++ rest)
+    ∙ ap (λ (l : List ℕ). cells ++ l) none ∙ append-nil cells
 
 -- the cells stored there, and those that a call put there
-pub cells-stored : {next : ℕ} {after : List ℕ} (row cells : List ℕ) → length row ≡ 511 → length cells ≡ 504 → Stored row 7 cells next after → drop 7 after ≡ cells
-cells-stored row cells e f s = ap (drop 7) (s .contents) ∙ behind row cells (drop (7 + length cells) row) e (drop-of-length-le row {i = 7 + length cells} (omega arith))
+pub cells-stored : {next : ℕ} {after : List ℕ} (row cells : List ℕ) → length row ≡ 511 → length cells ≡ 504 → Stored row 7 cells next after
+    → drop 7 after ≡ cells
+cells-stored row cells e f s =
+    ap (drop 7) (s .contents) ∙ behind row cells (drop (7 + length cells) row) e (drop-of-length-le row {i = 7 + length cells} (omega arith))
 
 pub cells-lent : (row cells : List ℕ) → length row ≡ 511 → drop 7 (take 7 row ++ (cells ++ drop (length row - 7) (drop 7 row))) ≡ cells
-cells-lent row cells e = behind row cells (drop (length row - 7) (drop 7 row)) e (drop-of-length-le (drop 7 row) {i = length row - 7} (omega (arith, length-drop 7 row)))
+cells-lent row cells e =
+    behind row cells (drop (length row - 7) (drop 7 row)) e (drop-of-length-le (drop 7 row) {i = length row - 7} (omega (arith, length-drop 7 row)))
 
 -- a sketch's parts, as the code lends them: the whole row behind the seven numbers
-pub parts-in : (row : List ℕ) (s : Settings) → s ≡ settingsIn row → held s (getD row 5 0) (getD row 6 0) (take (length row - 7) (drop 7 row)) ≡ sketchIn row
+pub parts-in : (row : List ℕ) (s : Settings) → s ≡ settingsFrom row → held s (getD row 5 0) (getD row 6 0) (take (length row - 7) (drop 7 row)) ≡ sketchIn row
 unfolding sketchIn
 parts-in row s e = rw (e, part-rest row 7)
 
--- and its kept cells alone
-pub kept-in : (row : List ℕ) (s : Settings) → s ≡ settingsIn row
-    → sketchAt s (getD row 5 0) (take (7 + getD row 6 0 - 7) (drop 7 row)) ≡ sketchAt (sketchIn row .settings) (sketchIn row .level) (take (sketchIn row .count) (sketchIn row .cells))
+-- and where they are known to be a sketch's
+pub known-in : (row : List ℕ) (h : Head) → length row ≡ 511 → h ≡ headIn row → Known h (take (length row - 7) (drop 7 row))
 unfolding sketchIn
-kept-in row s e =
-    let n : 7 + getD row 6 0 - 7 ≡ getD row 6 0 = omega arith in
-    rw (e, n)
+known-in row h e q =
+    let sized : length (drop 7 row) ≡ 504 = length-drop 7 row ∙ omega arith in
+    rw (part-rest row 7) (known-head (sketchIn row) q sized (sketch-facts (sketchIn row)))

@@ -1,4 +1,6 @@
 -- The laws.
 pub mod Crossings
 pub mod Outcomes
+pub mod Refusing
 pub mod Tight
+pub mod Zeros

@@ -1,26 +1,27 @@
 -- Two outcomes that one promise allows coincide.
 --     gives-tight    `pot_open`, `pot_add`, `pot_merge`: the number and the row
---     tells-tight    `pot_count`, `pot_next_hit`: the number and the value
+--     crosses-tight    `pot_count`, `pot_next_hit`: the number and the value
 --     writes-tight, reads-tight    `pot_write`, `pot_read`
 --     starts-tight, steps-tight    `pot_walker_open`, `pot_walker_next`
---     estimates-tight    `pot_estimate`
+--     estimates-tight    `pot_estimate`: the number, whether it is exact, and the double
 -- Assumes nothing.
 use mathlib.Core.Path.{_≡_, sym, _∙_}
 use mathlib.Core.List.{List}
 use Prim.Native.Nat.{ℕ}
 use lib.Ieee.{Float}
 use Rattle.rule.specs.declared.Settings.{Settings}
-use Rattle.rule.specs.Refusals.{Paper}
+use Rattle.rule.specs.Refusals.{Outcome, Paper}
 use Rattle.find.specs.declared.Walker.{Walker}
 use Rattle.sketch.specs.declared.Sketch.{Sketch}
-use Rattle.host.specs.Crossing.{Tells, Gives, ReadsIn, WritesOut, Begins, Moves, Weighs}
+use Rattle.sketch.specs.Estimates.{Weight}
+use Rattle.host.specs.Crossing.{Crosses, Gives, ReadsIn, WritesOut, Begins, Moves, Weighs}
 
 module _ {r q : ℕ} where
-  pub estimates-tight : {x y : Float} (k : Sketch) → Weighs k r x → Weighs k q y → (r ≡ q) × (x ≡ y)
-  estimates-tight k e f = (e .number ∙ sym (f .number), e .value ∙ sym (f .value))
+  pub estimates-tight : {t u : ℕ} {x y : Float} (a : Outcome Weight) → Weighs a r t x → Weighs a q u y → (r ≡ q) × (t ≡ u) × (x ≡ y)
+  estimates-tight a e f = (e .number ∙ sym (f .number), e .exact ∙ sym (f .exact), e .value ∙ sym (f .value))
 
-  pub tells-tight : {x y : ℕ} (paper : Paper) → Tells paper r x → Tells paper q y → (r ≡ q) × (x ≡ y)
-  tells-tight paper e f = (e .number ∙ sym (f .number), e .value ∙ sym (f .value))
+  pub crosses-tight : {x y : ℕ} (paper : Paper) → Crosses paper r x → Crosses paper q y → (r ≡ q) × (x ≡ y)
+  crosses-tight paper e f = (e .number ∙ sym (f .number), e .value ∙ sym (f .value))
 
   module _ {row after : List ℕ} where
     pub gives-tight : (paper : Paper) (next old : Sketch) → Gives paper next old r row → Gives paper next old q after → (r ≡ q) × (row ≡ after)
@@ -31,10 +32,10 @@ module _ {r q : ℕ} where
 
     module _ {x y : ℕ} where
       pub writes-tight : (k : Sketch) (room : List ℕ) → WritesOut k room r x row → WritesOut k room q y after → ((r ≡ q) × (x ≡ y)) × (row ≡ after)
-      writes-tight k room e f = (tells-tight _ (e .told) (f .told), e .contents ∙ sym (f .contents))
+      writes-tight k room e f = (crosses-tight _ (e .told) (f .told), e .contents ∙ sym (f .contents))
 
-      pub reads-tight : (bytes : List ℕ) → ReadsIn bytes r row x → ReadsIn bytes q after y → ((r ≡ q) × (row ≡ after)) × (x ≡ y)
-      reads-tight bytes e f = (gives-tight _ _ _ (e .given) (f .given), e .block ∙ sym (f .block))
+      pub reads-tight : (bytes : List ℕ) → ReadsIn bytes r x row → ReadsIn bytes q y after → ((r ≡ q) × (x ≡ y)) × (row ≡ after)
+      reads-tight bytes e f = (crosses-tight _ (e .told) (f .told), e .row ∙ sym (f .row))
 
       pub steps-tight : (w : Walker) → Moves w r x row → Moves w q y after → ((r ≡ q) × (x ≡ y)) × (row ≡ after)
-      steps-tight w e f = (tells-tight _ (e .told) (f .told), e .row ∙ sym (f .row))
+      steps-tight w e f = (crosses-tight _ (e .told) (f .told), e .row ∙ sym (f .row))

@@ -7,15 +7,17 @@ use lib.IntN.{pos}
 use lib.Ieee.{Float, binary64, ofInt}
 use Rattle.rule.specs.declared.Settings.{Settings}
 use Rattle.rule.specs.declared.answers.Taken.{Taken}
-use Rattle.rule.specs.Refusals.{Paper, answered, refused, ofTaken}
+use Rattle.rule.specs.Refusals.{Outcome, Paper, answered, refused, ofTaken}
 use Rattle.find.specs.declared.Walker.{Walker}
 use Rattle.find.specs.Walking.{walkerAt, startOn, started, stepOn, afterStep}
 use Rattle.sketch.specs.declared.Sketch.{Sketch}
-use Rattle.sketch.specs.declared.estimates.Estimate.{Estimate}
-use Rattle.sketch.specs.declared.estimates.Estimate.the-variants.{Exact, About, Refused}
-use Rattle.sketch.specs.Sketches.{opened, add, merge}
+use Rattle.sketch.specs.declared.parts.Head.{Head}
+use Rattle.sketch.specs.declared.parts.Tried.{Tried}
+use Rattle.sketch.specs.declared.parts.Tried.the-variants as tried
+use Rattle.sketch.specs.Sketches.{held, isSketch, opened, add, merge}
 use Rattle.sketch.specs.Calls.{noSketch, handed, openOn, addOn, mergeOn}
-use Rattle.sketch.specs.Estimates.{estimateOf, refusalOf}
+use Rattle.sketch.specs.Estimates.{Weight, exactly, about, estimateOn}
+use Rattle.sketch.specs.Trying.{headFor}
 use Rattle.image.specs.Images.{spelled}
 use Rattle.image.specs.Calls.{writeOn, roomAfter, readOn}
 
@@ -24,52 +26,56 @@ abbrev pub settingsRow : Settings → List ℕ
 settingsRow s = s .n ∷ s .p ∷ s .a ∷ s .b ∷ s .capacity ∷ []
 
 -- the settings that a row begins with
-abbrev pub settingsIn : List ℕ → Settings
-settingsIn row = record { n = getD row 0 0; p = getD row 1 0; a = getD row 2 0; b = getD row 3 0; capacity = getD row 4 0 }
+abbrev pub settingsFrom : List ℕ → Settings
+settingsFrom row = record { n = getD row 0 0; p = getD row 1 0; a = getD row 2 0; b = getD row 3 0; capacity = getD row 4 0 }
 
 -- a sketch as 511 numbers: the settings, the level, the number of cells, the 504 places
-unfoldable pub rowOf : Sketch → List ℕ
-rowOf k = settingsRow (k .settings) ++ (k .level ∷ k .count ∷ k .cells)
+unfoldable pub sketchRow : Sketch → List ℕ
+sketchRow k = settingsRow (k .settings) ++ (k .level ∷ k .count ∷ k .cells)
 
 unfoldable pub sketchIn : List ℕ → Sketch
-sketchIn row = record { settings = settingsIn row; level = getD row 5 0; count = getD row 6 0; cells = drop 7 row }
+sketchIn row = record { settings = settingsFrom row; level = getD row 5 0; count = getD row 6 0; cells = drop 7 row }
+
+-- all but the cells, and whether the row is a sketch's
+abbrev pub headIn : List ℕ → Head
+headIn row = headFor (isSketch (sketchIn row)) (sketchIn row)
 
 -- a walker as eight numbers: the settings, the level, the position, hi
 unfoldable pub walkerRow : Walker → List ℕ
 walkerRow w = settingsRow (w .settings) ++ (w .level ∷ w .at ∷ w .hi ∷ [])
 
 unfoldable pub walkerIn : List ℕ → Walker
-walkerIn row = walkerAt (settingsIn row) (getD row 5 0) (getD row 6 0) (getD row 7 0)
+walkerIn row = walkerAt (settingsFrom row) (getD row 5 0) (getD row 6 0) (getD row 7 0)
 
--- what a call returns: 0, or the refusal's number
-abbrev pub numberOf : Paper → ℕ
-numberOf (answered values) = 0
-numberOf (refused number block) = number
+-- an outcome as numbers. First 0, or the refusal's number
+abbrev pub toldNumber : {Told : Type 0} → Outcome Told → ℕ
+toldNumber (answered told) = 0
+toldNumber (refused number place) = number
 
--- the one value of an answer, 0 where it has none
-abbrev pub valueOf : Paper → ℕ
-valueOf (answered []) = 0
-valueOf (answered (x ∷ xs)) = x
-valueOf (refused number block) = 0
+-- beside it the answer's value, or the refusal's block; 0 where there is none
+abbrev pub toldValue : Paper → ℕ
+toldValue (answered []) = 0
+toldValue (answered (x ∷ xs)) = x
+toldValue (refused number place) = place
 
--- the refusal's block
-abbrev pub blockOf : Paper → ℕ
-blockOf (answered values) = 0
-blockOf (refused number block) = block
-
--- the paper's number, and the value beside it
-pub record Tells (paper : Paper) (r v : ℕ) : Type 0 where
-  pub number : r ≡ numberOf paper
-  pub value : v ≡ valueOf paper
+-- a call's paper crosses as these two numbers
+pub record Crosses (paper : Paper) (r v : ℕ) : Type 0 where
+  pub number : r ≡ toldNumber paper
+  pub value : v ≡ toldValue paper
 
 -- the paper's number, and the row of the sketch handed back
 pub record Gives (paper : Paper) (next old : Sketch) (r : ℕ) (after : List ℕ) : Type 0 where
-  pub number : r ≡ numberOf paper
-  pub row : after ≡ rowOf (handed paper next old)
+  pub number : r ≡ toldNumber paper
+  pub row : after ≡ sketchRow (handed paper next old)
+
+-- what is kept now in the row, with 0; or the row as it was, with the refusal's number
+abbrev pub Puts : Settings → Tried → List ℕ → List ℕ → ℕ → List ℕ → Type 0
+Puts s (tried.Kept level count) cells before r after = (r ≡ 0) × (after ≡ sketchRow (held s level count cells))
+Puts s (tried.Refused number) cells before r after = (r ≡ number) × (after ≡ before)
 
 -- what opening promises, on a row of settings
 abbrev pub Opens : List ℕ → ℕ → List ℕ → Type 0
-Opens settings r after = Gives (openOn (settingsIn settings)) (opened (settingsIn settings)) noSketch r after
+Opens settings r after = Gives (openOn (settingsFrom settings)) (opened (settingsFrom settings)) noSketch r after
 
 -- what adding promises, on the row lent
 abbrev pub Adds : List ℕ → ℕ → ℕ → ℕ → List ℕ → Type 0
@@ -82,35 +88,42 @@ Merges before other r after = Gives (mergeOn (sketchIn before) (sketchIn other))
 -- an image's answer, and the row of the sketch that it spells
 pub record Fills (bytes : List ℕ) (r : Taken) (after : List ℕ) : Type 0 where
   pub answer : ofTaken r ≡ readOn bytes
-  pub row : after ≡ rowOf (handed (readOn bytes) (spelled bytes) noSketch)
+  pub row : after ≡ sketchRow (handed (readOn bytes) (spelled bytes) noSketch)
 
 -- what reading promises
-pub record ReadsIn (bytes : List ℕ) (r : ℕ) (after : List ℕ) (b : ℕ) : Type 0 where
-  pub given : Gives (readOn bytes) (spelled bytes) noSketch r after
-  pub block : b ≡ blockOf (readOn bytes)
+pub record ReadsIn (bytes : List ℕ) (r block : ℕ) (after : List ℕ) : Type 0 where
+  pub told : Crosses (readOn bytes) r block
+  pub row : after ≡ sketchRow (handed (readOn bytes) (spelled bytes) noSketch)
 
 -- what writing promises
 pub record WritesOut (k : Sketch) (room : List ℕ) (r size : ℕ) (after : List ℕ) : Type 0 where
-  pub told : Tells (writeOn k (length room)) r size
+  pub told : Crosses (writeOn k (length room)) r size
   pub contents : after ≡ roomAfter (writeOn k (length room)) k room
 
 -- what opening a walker promises
 pub record Begins (s : Settings) (level lo hi r : ℕ) (after : List ℕ) : Type 0 where
-  pub number : r ≡ numberOf (startOn s level lo hi)
+  pub number : r ≡ toldNumber (startOn s level lo hi)
   pub row : after ≡ walkerRow (started (startOn s level lo hi) (walkerAt s level lo hi))
 
 -- what a walker's step promises
 pub record Moves (w : Walker) (r cell : ℕ) (after : List ℕ) : Type 0 where
-  pub told : Tells (stepOn w) r cell
+  pub told : Crosses (stepOn w) r cell
   pub row : after ≡ walkerRow (afterStep w)
 
--- the estimate as a double: a whole number of 32 bits is one, and 0 where the estimate is refused
-abbrev pub doubleOf : Estimate → Float
-doubleOf (Exact v) = ofInt binary64 (pos v)
-doubleOf (About x) = x
-doubleOf (Refused number) = ofInt binary64 (pos 0)
+-- an estimate as a double: a whole number of 32 bits is one, and 0 where the estimate is refused
+abbrev pub doubleOf : Outcome Weight → Float
+doubleOf (answered (exactly v)) = ofInt binary64 (pos v)
+doubleOf (answered (about x)) = x
+doubleOf (refused number place) = ofInt binary64 (pos 0)
 
--- what the estimate promises
-pub record Weighs (k : Sketch) (r : ℕ) (x : Float) : Type 0 where
-  pub number : r ≡ refusalOf (estimateOf k)
-  pub value : x ≡ doubleOf (estimateOf k)
+-- 1 where it is exact, and otherwise 0
+abbrev pub exactOf : Outcome Weight → ℕ
+exactOf (answered (exactly v)) = 1
+exactOf (answered (about x)) = 0
+exactOf (refused number place) = 0
+
+-- an estimate crosses as these three: the refusal's number, whether it is exact, and the double
+pub record Weighs (estimate : Outcome Weight) (r t : ℕ) (x : Float) : Type 0 where
+  pub number : r ≡ toldNumber estimate
+  pub exact : t ≡ exactOf estimate
+  pub value : x ≡ doubleOf estimate

@@ -6,10 +6,21 @@ ghost use Prim.Native.Nat.{_≤_};
 ghost use lib.ListN.{length, drop};
 ghost use Rattle.rule.specs.Refusals.{ofAnswer, ofCounted, ofFound, ofWritten, ofTaken};
 ghost use Rattle.find.specs.Finding.{countOn, nextOn};
-ghost use Rattle.sketch.specs.Estimates.{estimateOf, refusalOf};
+ghost use Rattle.sketch.specs.Estimates.{ofEstimate, estimateOn};
 ghost use Rattle.sketch.specs.Sketches.{held, isSketch};
 ghost use Rattle.image.specs.Calls.{Writes};
-ghost use Rattle.host.specs.Crossing.{settingsIn, sketchIn, rowOf, walkerIn, walkerRow, numberOf, blockOf, doubleOf, Tells, Opens, Adds, Merges, Fills, ReadsIn, WritesOut, Begins, Moves, Weighs};
+ghost use Rattle.host.specs.Crossing.{settingsFrom, sketchIn, headIn, sketchRow, walkerIn, walkerRow, toldNumber};
+ghost use Rattle.host.specs.Crossing.{Crosses, Weighs, Puts, Opens, Adds, Merges, Fills, ReadsIn, WritesOut, Begins, Moves};
+
+pub mod crossing;
+
+use crossing::head_in;
+use crossing::put_head;
+use crossing::put_sketch;
+use crossing::put_tried;
+use crossing::settings_in;
+use crossing::walker_in;
+use crossing::walker_row;
 use find::Walker;
 use rule::Settings;
 use rule::answers::Answer;
@@ -17,94 +28,48 @@ use rule::answers::Counted;
 use rule::answers::Found;
 use rule::answers::Taken;
 use rule::answers::Written;
+use sketch::PLACES;
 use sketch::Sketch;
 use sketch::estimates::Estimate;
 
-// The settings that a row begins with.
-fn settings_in(row: &[u32]) -> Settings
-    requires { ⌜ 5 ≤ length (now row) ⌝ }
-    ensures { λ r. ⌜ r ≡ settingsIn (now (row .entry)) ⌝ }
-{
-    Settings {
-        n: row[0],
-        p: row[1],
-        a: row[2],
-        b: row[3],
-        capacity: row[4],
-    }
+// An answer without an enum, as C takes it: the refusal's number, 0 where there is none, and the
+// value, 0 with a refusal. No pointer hands a value out, so a refusal has nothing to write.
+#[repr(C)]
+pub struct ToldValue {
+    pub number: u32,
+    pub value: u32,
 }
 
-// Is the row a sketch's? It is looked at where it stands.
-fn is_sketch(row: &[u32]) -> bool
-    requires { ⌜ length (now row) ≡ 511 ⌝ }
-    ensures { λ r. ⌜ r ≡ isSketch (sketchIn (now (row .entry))) ⌝ }
-{
-    sketch::is_sketch(settings_in(row), row[5], row[6], &row[7..])
+// No cell is 0, so 0 says that there is none.
+#[repr(C)]
+pub struct ToldCell {
+    pub number: u32,
+    pub cell: u32,
 }
 
-// Stores the seven numbers before the cells.
-fn put_head(row: &mut [u32], s: Settings, level: u32, count: u32)
-    requires { ⌜ length (now row) ≡ 511 ⌝ }
-    ensures { λ _. ⌜ now (row .exit) ≡ rowOf (held s level count (drop 7 (now (row .entry)))) ⌝ }
-{
-    row[0] = s.n;
-    row[1] = s.p;
-    row[2] = s.a;
-    row[3] = s.b;
-    row[4] = s.capacity;
-    row[5] = level;
-    row[6] = count;
+#[repr(C)]
+pub struct ToldLength {
+    pub number: u32,
+    pub length: usize,
 }
 
-// Stores a whole sketch.
-fn put_sketch(row: &mut [u32], s: Settings, level: u32, count: u32, cells: &[u32])
-    requires { ⌜ (length (now row) ≡ 511) × (length (now cells) ≡ 504) ⌝ }
-    ensures { λ _. ⌜ now (row .exit) ≡ rowOf (held s level count (now (cells .entry))) ⌝ }
-{
-    rows::store(row, 7, cells);
-    put_head(row, s, level, count);
+// The block is the one that refusal 7 names.
+#[repr(C)]
+pub struct ToldBlock {
+    pub number: u32,
+    pub block: u32,
 }
 
-fn walker_in(row: &[u32]) -> Walker
-    requires { ⌜ length (now row) ≡ 8 ⌝ }
-    ensures { λ r. ⌜ r ≡ walkerIn (now (row .entry)) ⌝ }
-{
-    Walker {
-        settings: settings_in(row),
-        level: row[5],
-        at: row[6],
-        hi: row[7],
-    }
-}
-
-fn walker_row(w: Walker) -> [u32; 8]
-    ensures { λ r. ⌜ r ≡ walkerRow w ⌝ }
-{
-    let s = w.settings;
-    [s.n, s.p, s.a, s.b, s.capacity, w.level, w.at, w.hi]
-}
-
-// An answer without an enum: the refusal's number, 0 where there is none, and the value, 0 where
-// there is none.
-struct Told {
-    number: u32,
-    value: u32,
-}
-
-// The same with a length.
-struct ToldLength {
-    number: u32,
-    value: usize,
-}
-
-// The same with a double.
-struct ToldDouble {
-    number: u32,
-    value: f64,
+// `exact` is 1 where the value is exact, and otherwise 0.
+#[repr(C)]
+pub struct ToldDouble {
+    pub number: u32,
+    pub exact: u32,
+    pub value: f64,
 }
 
 fn number_of(a: Answer) -> u32
-    ensures { λ r. ⌜ r ≡ numberOf (ofAnswer a) ⌝ }
+    ensures { λ r. ⌜ r ≡ toldNumber (ofAnswer a) ⌝ }
 {
     match a {
         Answer::Done => 0,
@@ -112,68 +77,69 @@ fn number_of(a: Answer) -> u32
     }
 }
 
-fn told_count(c: Counted) -> Told
-    ensures { λ r. ⌜ Tells (ofCounted c) (r .number) (r .value) ⌝ }
+fn told_count(c: Counted) -> ToldValue
+    ensures { λ r. ⌜ Crosses (ofCounted c) (r .number) (r .value) ⌝ }
 {
     match c {
-        Counted::Count(value) => Told { number: 0, value },
-        Counted::Refused(number) => Told { number, value: 0 },
+        Counted::Count(value) => ToldValue { number: 0, value },
+        Counted::Refused(number) => ToldValue { number, value: 0 },
     }
 }
 
-// No cell is 0, so 0 says that there is none.
-fn told_cell(f: Found) -> Told
-    ensures { λ r. ⌜ Tells (ofFound f) (r .number) (r .value) ⌝ }
+fn told_cell(f: Found) -> ToldCell
+    ensures { λ r. ⌜ Crosses (ofFound f) (r .number) (r .cell) ⌝ }
 {
     match f {
-        Found::Cell(value) => Told { number: 0, value },
-        Found::Nothing => Told {
-            number: 0,
-            value: 0,
-        },
-        Found::Refused(number) => Told { number, value: 0 },
+        Found::Cell(cell) => ToldCell { number: 0, cell },
+        Found::Nothing => ToldCell { number: 0, cell: 0 },
+        Found::Refused(number) => ToldCell { number, cell: 0 },
     }
 }
 
 fn told_length(w: Written) -> ToldLength
-    ensures { λ r. ⌜ Tells (ofWritten w) (r .number) (r .value) ⌝ }
+    ensures { λ r. ⌜ Crosses (ofWritten w) (r .number) (r .length) ⌝ }
 {
     match w {
-        Written::Length(value) => ToldLength { number: 0, value },
-        Written::Refused(number) => ToldLength { number, value: 0 },
+        Written::Length(length) => ToldLength { number: 0, length },
+        Written::Refused(number) => ToldLength { number, length: 0 },
     }
 }
 
-// The value is the block that a refusal names.
-fn told_block(t: Taken) -> Told
-    ensures { λ r. ⌜ (r .number ≡ numberOf (ofTaken t)) × (r .value ≡ blockOf (ofTaken t)) ⌝ }
+fn told_block(t: Taken) -> ToldBlock
+    ensures { λ r. ⌜ Crosses (ofTaken t) (r .number) (r .block) ⌝ }
 {
     match t {
-        Taken::Done => Told {
+        Taken::Done => ToldBlock {
             number: 0,
-            value: 0,
+            block: 0,
         },
-        Taken::Refused { number, block } => Told {
+        Taken::Refused { number, place } => ToldBlock {
             number,
-            value: block,
+            block: place,
         },
     }
 }
 
 // A double holds every whole number of 32 bits, so nothing is lost of an exact answer either.
 fn told_double(e: Estimate) -> ToldDouble
-    ensures { λ r. ⌜ (r .number ≡ refusalOf e) × (r .value ≡ doubleOf e) ⌝ }
+    ensures { λ r. ⌜ Weighs (ofEstimate e) (r .number) (r .exact) (r .value) ⌝ }
 {
     match e {
         Estimate::Exact(v) => ToldDouble {
             number: 0,
+            exact: 1,
             value: v as f64,
         },
         Estimate::About(x) => ToldDouble {
             number: 0,
+            exact: 0,
             value: x,
         },
-        Estimate::Refused(number) => ToldDouble { number, value: 0.0 },
+        Estimate::Refused(number) => ToldDouble {
+            number,
+            exact: 0,
+            value: 0.0,
+        },
     }
 }
 
@@ -195,18 +161,11 @@ fn add_in(row: &mut [u32], lo: u32, hi: u32) -> u32
     requires { ⌜ length (now row) ≡ 511 ⌝ }
     ensures { λ r. ⌜ Adds (now (row .entry)) lo hi r (now (row .exit)) ⌝ }
 {
-    if !is_sketch(row) {
-        return 4;
-    }
-    let s = settings_in(row);
-    if !find::in_range(s, lo, hi) {
-        return 2;
-    }
-    let mut out = [0u32; 504];
-    let end = 7 + row[6] as usize;
-    let kept = sketch::add_to(&mut out, s, row[5], &row[7..end], lo, hi);
-    put_sketch(row, s, kept.level, kept.count, &out);
-    0
+    let head = head_in(row);
+    let s = head.settings;
+    let mut out = [0u32; PLACES];
+    let tried = sketch::parts::try_add(&mut out, head, &row[7..], lo, hi);
+    put_tried(row, s, tried, &out)
 }
 
 // The same for merging.
@@ -214,27 +173,17 @@ fn merge_in(row: &mut [u32], other: &[u32]) -> u32
     requires { ⌜ (length (now row) ≡ 511) × (length (now other) ≡ 511) ⌝ }
     ensures { λ r. ⌜ Merges (now (row .entry)) (now (other .entry)) r (now (row .exit)) ⌝ }
 {
-    if !is_sketch(row) {
-        return 4;
-    }
-    if !is_sketch(other) {
-        return 4;
-    }
-    let s = settings_in(row);
-    if !sketch::same_settings(s, settings_in(other)) {
-        return 5;
-    }
-    let mut out = [0u32; 504];
-    let end = 7 + row[6] as usize;
-    let last = 7 + other[6] as usize;
-    let kept = sketch::merge_to(&mut out, s, row[5], &row[7..end], other[5], &other[7..last]);
-    put_sketch(row, s, kept.level, kept.count, &out);
-    0
+    let mine = head_in(row);
+    let its = head_in(other);
+    let s = mine.settings;
+    let mut out = [0u32; PLACES];
+    let tried = sketch::parts::try_merge(&mut out, mine, &row[7..], its, &other[7..]);
+    put_tried(row, s, tried, &out)
 }
 
 fn estimate_in(row: &[u32]) -> Estimate
     requires { ⌜ length (now row) ≡ 511 ⌝ }
-    ensures { λ r. ⌜ r ≡ estimateOf (sketchIn (now (row .entry))) ⌝ }
+    ensures { λ r. ⌜ ofEstimate r ≡ estimateOn (sketchIn (now (row .entry))) ⌝ }
 {
     sketch::estimate_of(settings_in(row), row[5], row[6], &row[7..])
 }
@@ -280,36 +229,28 @@ pub extern "C" fn pot_merge(sketch: &mut [u32; 511], other: &[u32; 511]) -> u32
 }
 
 #[no_mangle]
-pub extern "C" fn pot_estimate(sketch: &[u32; 511], value: &mut f64) -> u32
-    ensures { λ r. ⌜ Weighs (sketchIn (now (sketch .entry))) r (now (value .exit)) ⌝ }
+pub extern "C" fn pot_estimate(sketch: &[u32; 511]) -> ToldDouble
+    ensures { λ r. ⌜ Weighs (estimateOn (sketchIn (now (sketch .entry)))) (r .number) (r .exact) (r .value) ⌝ }
 {
-    let told = told_double(estimate_in(sketch));
-    *value = told.value;
-    told.number
+    told_double(estimate_in(sketch))
 }
 
 #[no_mangle]
-pub extern "C" fn pot_count(
-    settings: &[u32; 5],
-    level: u32,
-    lo: u32,
-    hi: u32,
-    count: &mut u32,
-) -> u32
-    ensures { λ r. ⌜ Tells (countOn (settingsIn (now (settings .entry))) level lo hi) r (now (count .exit)) ⌝ }
+pub extern "C" fn pot_count(settings: &[u32; 5], level: u32, lo: u32, hi: u32) -> ToldValue
+    ensures { λ r. ⌜ Crosses (countOn (settingsFrom (now (settings .entry))) level lo hi) (r .number) (r .value) ⌝ }
 {
-    let told = told_count(find::count(settings_in(settings), level, lo, hi));
-    *count = told.value;
-    told.number
+    told_count(find::count(settings_in(settings), level, lo, hi))
 }
 
 #[no_mangle]
-pub extern "C" fn pot_next_hit(settings: &[u32; 5], level: u32, from: u32, cell: &mut u32) -> u32
-    ensures { λ r. ⌜ Tells (nextOn (settingsIn (now (settings .entry))) level from) r (now (cell .exit)) ⌝ }
+pub extern "C" fn pot_next_hit(settings: &[u32; 5], level: u32, from: u32) -> ToldValue
+    ensures { λ r. ⌜ Crosses (nextOn (settingsFrom (now (settings .entry))) level from) (r .number) (r .value) ⌝ }
 {
     let told = told_cell(find::next_hit(settings_in(settings), level, from));
-    *cell = told.value;
-    told.number
+    ToldValue {
+        number: told.number,
+        value: told.cell,
+    }
 }
 
 #[no_mangle]
@@ -320,7 +261,7 @@ pub extern "C" fn pot_walker_open(
     hi: u32,
     walker: &mut [u32; 8],
 ) -> u32
-    ensures { λ r. ⌜ Begins (settingsIn (now (settings .entry))) level lo hi r (now (walker .exit)) ⌝ }
+    ensures { λ r. ⌜ Begins (settingsFrom (now (settings .entry))) level lo hi r (now (walker .exit)) ⌝ }
 {
     let started = Walker::open(settings_in(settings), level, lo, hi);
     let w = started.walker;
@@ -330,33 +271,27 @@ pub extern "C" fn pot_walker_open(
 }
 
 #[no_mangle]
-pub extern "C" fn pot_walker_next(walker: &mut [u32; 8], cell: &mut u32) -> u32
-    ensures { λ r. ⌜ Moves (walkerIn (now (walker .entry))) r (now (cell .exit)) (now (walker .exit)) ⌝ }
+pub extern "C" fn pot_walker_next(walker: &mut [u32; 8]) -> ToldCell
+    ensures { λ r. ⌜ Moves (walkerIn (now (walker .entry))) (r .number) (r .cell) (now (walker .exit)) ⌝ }
 {
     let w = walker_in(walker);
     let stepped = w.step();
     let next = stepped.walker;
     let f = stepped.found;
     *walker = walker_row(next);
-    let told = told_cell(f);
-    *cell = told.value;
-    told.number
+    told_cell(f)
 }
 
 #[no_mangle]
-pub extern "C" fn pot_write(sketch: &[u32; 511], room: &mut [u8], length: &mut usize) -> u32
-    ensures { λ r. ⌜ WritesOut (sketchIn (now (sketch .entry))) (now (room .entry)) r (now (length .exit)) (now (room .exit)) ⌝ }
+pub extern "C" fn pot_write(sketch: &[u32; 511], room: &mut [u8]) -> ToldLength
+    ensures { λ r. ⌜ WritesOut (sketchIn (now (sketch .entry))) (now (room .entry)) (r .number) (r .length) (now (room .exit)) ⌝ }
 {
-    let told = told_length(write_in(sketch, room));
-    *length = told.value;
-    told.number
+    told_length(write_in(sketch, room))
 }
 
 #[no_mangle]
-pub extern "C" fn pot_read(bytes: &[u8], sketch: &mut [u32; 511], block: &mut u32) -> u32
-    ensures { λ r. ⌜ ReadsIn (now (bytes .entry)) r (now (sketch .exit)) (now (block .exit)) ⌝ }
+pub extern "C" fn pot_read(bytes: &[u8], sketch: &mut [u32; 511]) -> ToldBlock
+    ensures { λ r. ⌜ ReadsIn (now (bytes .entry)) (r .number) (r .block) (now (sketch .exit)) ⌝ }
 {
-    let told = told_block(read_in(bytes, sketch));
-    *block = told.value;
-    told.number
+    told_block(read_in(bytes, sketch))
 }

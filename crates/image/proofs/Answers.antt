@@ -16,13 +16,14 @@ use lib.Dec.{eqb}
 use lib.ListN.{length, take, drop, replicate, length-append, length-drop, drop-of-length-le}
 use lib.Seq.{take-all, take-at, drop-at, length-take-le}
 use borrow.Author.Tests.{leb-true, eqb-true, eq-eqb, ne-eqb, le-leb, lt-leb, lt-ltb, le-ltb}
+use Rattle.lists.specs.Lists.{same}
+use Rattle.lists.specs.Rows.{placed, allZero}
+use Rattle.lists.proofs.Searches.{least-to}
 use Rattle.rule.specs.declared.answers.Written.{Written}
 use Rattle.rule.specs.declared.answers.Taken.the-variants.{Done}
 use Rattle.rule.specs.Rule.{isGood}
-use Rattle.rule.specs.Rows.{placed, allZero}
 use Rattle.rule.specs.Refusals.{Paper, answered, refused, unless, badSettings, badImage, ofWritten}
 use Rattle.rule.proofs.Facts.{facts-good}
-use Rattle.rule.proofs.Lists.{least-to}
 use Rattle.rule.specs.declared.Settings.{Settings}
 use Rattle.rule.specs.declared.answers.Written.the-variants as written
 use Rattle.block.specs.Sums.{sealed, blockGood}
@@ -31,9 +32,10 @@ use Rattle.sketch.specs.declared.Sketch.{Sketch}
 use Rattle.sketch.specs.Sketches.{sketchAt, isSketch}
 use Rattle.sketch.proofs.Facts.{sketch-facts}
 use Rattle.image.specs.declared.Header.{Header}
-use Rattle.image.specs.Images.{headOf, blocksFor, cellBlocks, imageAs, imageOf, settingsIn, countIn, spelled}
-use Rattle.image.specs.Shapes.{Blocks, between, blockAt, blocksIn, firstWrong, blocksShaped, shaped}
-use Rattle.image.specs.Calls.{same, writeOn, roomAfter, Writes, rightLength, marked, Checked, isImage, readMarked, readOn, refusedWith, faultIn, loadedWith, Hands, Reads}
+use Rattle.image.specs.Images.{fieldsEnd, headWith, blocksFor, cellBlocks, imageWith, imageOf, saidSettings, saidCount, spelled}
+use Rattle.image.specs.Shapes.{Blocks, span, blockAt, blocksIn, firstWrong, blocksShaped, shaped}
+use Rattle.image.specs.Calls.{writeOn, roomAfter, Writes, rightLength, marked, Checked}
+use Rattle.image.specs.Calls.{isImage, readMarked, readOn, refusedHeader, faultIn, loadedWith, HandsOver, Reads}
 use Rattle.image.proofs.Bodies.{head-length}
 use Rattle.image.proofs.Spelling.{shaped-same}
 
@@ -49,7 +51,8 @@ module _ (k : Sketch) (room : List ℕ) where
   unfolding writeOn
   write-short e h = writes (refused 6 0) (written.Refused 6) room (rw (e, lt-leb (length (imageOf k)) (length room) h)) refl refl
 
-  pub write-done : (n : ℕ) (after : List ℕ) → isSketch k ≡ true → n ≡ length (imageOf k) → n ≤ length room → after ≡ placed room 0 (imageOf k) → Writes k room (written.Length n) after
+  pub write-done : (n : ℕ) (after : List ℕ) → isSketch k ≡ true → n ≡ length (imageOf k) → n ≤ length room → after ≡ placed room 0 (imageOf k)
+      → Writes k room (written.Length n) after
   unfolding writeOn
   write-done n after e l h f = writes (answered (n ∷ [])) (written.Length n) after (rw (e, ← l, le-leb n (length room) h)) refl f
 
@@ -66,26 +69,26 @@ length-facts s e =
 
 -- a refusal, and a row of zeros
 module _ (p : Paper) (s : List ℕ) (h : Header) (row : List ℕ) (zeros : row ≡ replicate 504 0) where
-  hands : (number block : ℕ) → p ≡ refused number block → h ≡ refusedWith number block → Hands p s (loadedWith h row)
+  hands : (number place : ℕ) → p ≡ refused number place → h ≡ refusedHeader number place → HandsOver p s (loadedWith h row)
   unfolding sketchAt
-  hands number block e q = rw (e, q, zeros) (record { answer = refl; sketch = refl })
+  hands number place e q = rw (e, q, zeros) (record { answer = refl; sketch = refl })
 
 module _ (s : List ℕ) (h : Header) (row : List ℕ) (right : rightLength (length s) ≡ true) (good : blocksIn s ≤ firstWrong s) (e : marked s ≡ true) where
-  pub read-on : Hands (readMarked s) s (loadedWith h row) → Reads s (loadedWith h row)
+  pub read-on : HandsOver (readMarked s) s (loadedWith h row) → Reads s (loadedWith h row)
   unfolding readOn
   read-on q = rw (right, le-ltb (firstWrong s) (blocksIn s) good, e) q
 
 module _ (s : List ℕ) (h : Header) (row : List ℕ) (zeros : row ≡ replicate 504 0) where
-  pub read-length : rightLength (length s) ≡ false → h ≡ refusedWith 8 0 → Reads s (loadedWith h row)
+  pub read-length : rightLength (length s) ≡ false → h ≡ refusedHeader 8 0 → Reads s (loadedWith h row)
   unfolding readOn
   read-length e q = hands (readOn s) s h row zeros 8 0 (rw e) q
 
   module _ (right : rightLength (length s) ≡ true) where
-    pub read-check : (i : ℕ) → i ≡ firstWrong s → i < blocksIn s → h ≡ refusedWith 7 i → Reads s (loadedWith h row)
+    pub read-check : (i : ℕ) → i ≡ firstWrong s → i < blocksIn s → h ≡ refusedHeader 7 i → Reads s (loadedWith h row)
     unfolding readOn
     read-check i e l q = hands (readOn s) s h row zeros 7 i (rw (right, ← e, lt-ltb i (blocksIn s) l)) q
 
-    pub read-mark : blocksIn s ≤ firstWrong s → marked s ≡ false → h ≡ refusedWith 8 0 → Reads s (loadedWith h row)
+    pub read-mark : blocksIn s ≤ firstWrong s → marked s ≡ false → h ≡ refusedHeader 8 0 → Reads s (loadedWith h row)
     unfolding readOn
     read-mark good e q = hands (readOn s) s h row zeros 8 0 (rw (right, le-ltb (firstWrong s) (blocksIn s) good, e)) q
 
@@ -97,75 +100,81 @@ all-right s h = let l = least-to (λ i. not (blockGood (blockAt i s))) (blocksIn
 -- no image: the fault decides
 fault : (s : List ℕ) → isImage s ≡ false → readMarked s ≡ refused (faultIn s) 0
 unfolding readMarked faultIn
-fault s e = rw e (each (isGood (settingsIn s)))
+fault s e = rw e (each (isGood (saidSettings s)))
   where
-    each : (t : Bool) → unless t badSettings (refused badImage 0) ≡ refused (cond t badImage badSettings) 0
+    each : (t : Bool) → _≡_ {A = Paper} (unless t badSettings (refused badImage 0)) (refused (cond t badImage badSettings) 0)
     each true = refl
     each false = refl
 
-spelled-good : (s : List ℕ) → isSketch (spelled s) ≡ true → isGood (settingsIn s) ≡ true
+spelled-good : (s : List ℕ) → isSketch (spelled s) ≡ true → isGood (saidSettings s) ≡ true
 unfolding spelled sketchAt
-spelled-good s e = facts-good (settingsIn s) (sketch-facts (spelled s) e .settings)
+spelled-good s e = facts-good (saidSettings s) (sketch-facts (spelled s) e .settings)
 
-module _ (s : List ℕ) (c : Checked s) (h : Header) (row : List ℕ) (zeros : row ≡ replicate 504 0) (q : h ≡ refusedWith (faultIn s) 0) where
-  pub marked-shape : shaped s ≡ false → Hands (readMarked s) s (loadedWith h row)
+module _ (s : List ℕ) (c : Checked s) (h : Header) (row : List ℕ) (zeros : row ≡ replicate 504 0) (q : h ≡ refusedHeader (faultIn s) 0) where
+  pub marked-shape : shaped fieldsEnd s ≡ false → HandsOver (readMarked s) s (loadedWith h row)
   unfolding isImage
-  marked-shape e = hands (readMarked s) s h row zeros _ 0 (fault s (ap (λ t. isSketch (spelled s) && t) (sym (shaped-same s c) ∙ e) ∙ and-false (isSketch (spelled s)))) q
+  marked-shape e =
+      hands (readMarked s) s h row zeros _ 0 (fault s (ap (λ t. isSketch (spelled s) && t) (sym (shaped-same s c) ∙ e) ∙ and-false (isSketch (spelled s)))) q
 
-  pub marked-sketch : (k : Sketch) → k ≡ spelled s → isSketch k ≡ false → Hands (readMarked s) s (loadedWith h row)
+  pub marked-sketch : (k : Sketch) → k ≡ spelled s → isSketch k ≡ false → HandsOver (readMarked s) s (loadedWith h row)
   unfolding isImage
   marked-sketch k f e = hands (readMarked s) s h row zeros _ 0 (fault s (ap (λ t. t && same s (imageOf (spelled s))) (ap isSketch (sym f) ∙ e))) q
 
-pub marked-done : (s : List ℕ) → Checked s → (k : Sketch) → k ≡ spelled s → shaped s ≡ true → isSketch k ≡ true → Hands (readMarked s) s (record { taken = Done; sketch = k })
+pub marked-done : (s : List ℕ) → Checked s → (k : Sketch) → k ≡ spelled s → shaped fieldsEnd s ≡ true → isSketch k ≡ true
+    → HandsOver (readMarked s) s (record { taken = Done; sketch = k })
 unfolding readMarked isImage
 marked-done s c k q e i =
     let g : isSketch (spelled s) ≡ true = ap isSketch (sym q) ∙ i in
-    let good : isGood (settingsIn s) ≡ true = spelled-good s g in
+    let good : isGood (saidSettings s) ≡ true = spelled-good s g in
     let p : readMarked s ≡ answered [] = rw (good, g, ← shaped-same s c, e) in
     record { answer = cc; sketch = cc }
 
 -- the tests of the shape, as code makes them
-module _ (s : List ℕ) (n : ℕ) (said : n ≡ countIn s) where
-  pub shape-count : (blocksIn s ≡ 1 + blocksFor n → ⊥) → false ≡ shaped s
+module _ (s : List ℕ) (from n : ℕ) (said : n ≡ saidCount s) (m : ℕ) (blocks : m ≡ blocksFor n) where
+  pub shape-count : (blocksIn s ≡ 1 + m → ⊥) → false ≡ shaped from s
   unfolding shaped
-  shape-count h = rw (← said, ne-eqb (blocksIn s) (1 + blocksFor n) h)
+  shape-count h = rw (← said, ← blocks, ne-eqb (blocksIn s) (1 + m) h)
 
-  module _ (right : blocksIn s ≡ 1 + blocksFor n) (z : Bool) (zeros : z ≡ allZero (between 26 508 s)) where
-    pub shape-zeros : z ≡ false → false ≡ shaped s
+  module _ (right : blocksIn s ≡ 1 + m) (z : Bool) (zeros : z ≡ allZero (span from 508 s)) where
+    pub shape-zeros : z ≡ false → false ≡ shaped from s
     unfolding shaped
-    shape-zeros e = rw (← said, eq-eqb (blocksIn s) (1 + blocksFor n) right, ← zeros, e)
+    shape-zeros e = rw (← said, ← blocks, eq-eqb (blocksIn s) (1 + m) right, ← zeros, e)
 
-    pub shape-all : (r : Bool) → z ≡ true → r ≡ blocksShaped (blocksFor n) 1 n (take (length s - 512) (drop 512 s)) → r ≡ shaped s
+    pub shape-all : (r : Bool) → z ≡ true → r ≡ blocksShaped (blocksFor n) 1 n (take (length s - 512) (drop 512 s)) → r ≡ shaped from s
     unfolding shaped
     shape-all r e q =
         let rest : take (length s - 512) (drop 512 s) ≡ drop 512 s = take-all (length s - 512) (drop 512 s) (rw length-drop (omega arith)) in
-        rw (← said, eq-eqb (blocksIn s) (1 + blocksFor n) right, ← zeros, e, ← rest) q
+        let all : blocksIn s ≡ 1 + blocksFor n = right ∙ ap (λ k. 1 + k) blocks in
+        rw (← said, eq-eqb (blocksIn s) (1 + blocksFor n) all, ← zeros, e, ← rest) q
 
 -- the right number of blocks after block 0, which hold 504 cells at most
-pub shaped-size : (s : List ℕ) → Blocks s → shaped s ≡ true → (n : ℕ) → n ≡ countIn s → (length (take (length s - 512) (drop 512 s)) ≡ 512 * blocksFor n) × (n ≤ 504)
+pub shaped-size : (s : List ℕ) (from : ℕ) → Blocks s → shaped from s ≡ true → (n : ℕ) → n ≡ saidCount s
+    → (length (take (length s - 512) (drop 512 s)) ≡ 512 * blocksFor n) × (n ≤ 504)
 unfolding shaped
-shaped-size s b e n said =
-    let m : blocksIn s ≡ 1 + blocksFor (countIn s) = eqb-true (blocksIn s) (1 + blocksFor (countIn s)) (and-eq-true-iff (eqb (blocksIn s) (1 + blocksFor (countIn s))) _ .0 e .0) in
+shaped-size s from b e n said =
+    let m : blocksIn s ≡ 1 + blocksFor (saidCount s) =
+    eqb-true (blocksIn s) (1 + blocksFor (saidCount s)) (and-eq-true-iff (eqb (blocksIn s) (1 + blocksFor (saidCount s))) _ .0 e .0) in
     let w : length s ≡ 512 * blocksIn s = b .whole in
     let h : length s ≤ 2560 = b .few in
     (length-take-le (length s - 512) (drop 512 s) (rw length-drop (omega arith)) ∙ omega arith, omega arith)
 
 module _ (s : List ℕ) where
-  pub fault-image : isGood (settingsIn s) ≡ true → faultIn s ≡ 8
+  pub fault-image : isGood (saidSettings s) ≡ true → faultIn s ≡ 8
   unfolding faultIn
   fault-image e = rw e
 
-  pub fault-settings : isGood (settingsIn s) ≡ false → faultIn s ≡ 1
+  pub fault-settings : isGood (saidSettings s) ≡ false → faultIn s ≡ 1
   unfolding faultIn
   fault-settings e = rw e
 
 -- block 0 and the cell blocks, put in room of their length
-pub image-put : (s : Settings) (level : ℕ) (xs room head blocks : List ℕ) → head ≡ sealed (headOf s level (length xs)) → blocks ≡ cellBlocks (blocksFor (length xs)) 1 xs
+pub image-put : (m : ℕ) (tail : List ℕ) → fieldsEnd + length tail ≤ 508 → (s : Settings) (level : ℕ) (xs room head blocks : List ℕ)
+    → head ≡ sealed (headWith m tail s level (length xs)) → blocks ≡ cellBlocks (blocksFor (length xs)) 1 xs
     → (n : ℕ) → n ≡ length (head ++ drop 512 room) - 512
-    → take 512 (head ++ drop 512 room) ++ (blocks ++ drop n (drop 512 (head ++ drop 512 room))) ≡ imageAs s level xs
-unfolding imageAs
-image-put s level xs room head blocks h b n l =
-    let size : length head ≡ 512 = ap length h ∙ sealed-length (headOf s level (length xs)) (head-length s level (length xs)) in
+    → take 512 (head ++ drop 512 room) ++ (blocks ++ drop n (drop 512 (head ++ drop 512 room))) ≡ imageWith m tail s level xs
+unfolding imageWith
+image-put m tail fits s level xs room head blocks h b n l =
+    let size : length head ≡ 512 = ap length h ∙ sealed-length (headWith m tail s level (length xs)) (head-length m s level (length xs) tail fits) in
     let none : drop n (drop 512 room) ≡ [] = drop-of-length-le (drop 512 room) {i = n} (omega (arith, length-append head (drop 512 room))) in
     ap₂ (λ a r. a ++ (blocks ++ r)) (take-at head (drop 512 room) 512 size) (ap (drop n) (drop-at head (drop 512 room) 512 size) ∙ none)
     ∙ ap (λ t. head ++ t) (append-nil blocks)

@@ -18,7 +18,7 @@ use lib.Dec.{lit<, leb}
 use lib.ListN.{length, take, drop, length-append, length-drop, length-take, take-append-drop, drop-of-length-le}
 use lib.Seq.{take-at, drop-at, take-all, drop-drop, length-take-le, getD-drop}
 use borrow.Author.Tests.{leb-true, leb-false}
-use Rattle.rule.proofs.Lists.{tested}
+use Rattle.lists.proofs.Tests.{tested}
 use Rattle.block.specs.Little.{Bytes}
 use Rattle.block.specs.Sums.{blockGood, sealed}
 use Rattle.block.proofs.Numbers.{append-small, take-small, drop-small}
@@ -50,7 +50,9 @@ blocks-length (suc m) i xs = rw (length-append, one-length i xs, blocks-length m
 pub blocks-small : (m i : ℕ) (xs : List ℕ) → Bytes (cellBlocks m i xs)
 unfolding cellBlocks
 blocks-small zero i xs j = lit< tt
-blocks-small (suc m) i xs j = append-small (one i xs) (cellBlocks m (suc i) (drop 126 xs)) (sealed-small (bodyOf i (front xs)) (body-small i (front xs))) (blocks-small m (suc i) (drop 126 xs)) j
+blocks-small (suc m) i xs j =
+    append-small (one i xs) (cellBlocks m (suc i) (drop 126 xs)) (sealed-small (bodyOf i (front xs)) (body-small i (front xs)))
+    (blocks-small m (suc i) (drop 126 xs)) j
 
 none : (m : ℕ) (s : List ℕ) → cellsIn m 0 s ≡ []
 unfolding cellsIn numbersIn
@@ -100,7 +102,8 @@ made-cells (suc m) i count xs e h f =
     let n : min 126 count ≡ length (front xs) = sym (length-take 126 xs ∙ ap (min 126) e) in
     let l : length (drop 126 xs) ≡ count - 126 = length-drop 126 xs ∙ ap (λ k. k - 126) e in
     rw (made-front i m xs, made-rest i m xs, n)
-    (ap₂ _++_ (body-cells i (front xs) (take-fours 126 xs f)) (made-cells m (suc i) (count - 126) (drop 126 xs) l (omega arith) (drop-fours 126 xs f)) ∙ take-append-drop 126 xs)
+    (ap₂ _++_ (body-cells i (front xs) (take-fours 126 xs f))
+    (made-cells m (suc i) (count - 126) (drop 126 xs) l (omega arith) (drop-fours 126 xs f)) ∙ take-append-drop 126 xs)
 
 -- block j + 1 is block j of what follows the first
 pub block-next : (j : ℕ) (s : List ℕ) → blockAt j (drop 512 s) ≡ blockAt (suc j) s
@@ -165,7 +168,8 @@ module _ (m i : ℕ) (h : i < m) where
   left = omega arith
 
   pub shaped-turn : (count : ℕ) (s : List ℕ) → blocksShaped (m - i) (i + 1) (count - 126 * i) (drop (512 * i) s)
-      ≡ (blockShaped (i + 1) (min 126 (count - 126 * i)) (blockAt i s) && blocksShaped (m - (i + 1)) (i + 1 + 1) (count - 126 * (i + 1)) (drop (512 * (i + 1)) s))
+      ≡ (blockShaped (i + 1) (min 126 (count - 126 * i)) (blockAt i s)
+      && blocksShaped (m - (i + 1)) (i + 1 + 1) (count - 126 * (i + 1)) (drop (512 * (i + 1)) s))
   unfolding blocksShaped
   shaped-turn count s =
       let c : count - 126 * i - 126 ≡ count - 126 * (i + 1) = omega arith in

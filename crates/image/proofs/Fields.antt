@@ -92,7 +92,8 @@ unfolding numbersIn cellBytes
 numbers-bytes [] t h = refl
 numbers-bytes (x ∷ xs) t h =
     let split : cellBytes (x ∷ xs) ++ t ≡ bytesOf 4 x ++ (cellBytes xs ++ t) = append-assoc (bytesOf 4 x) (cellBytes xs) t in
-    let one : numberOf (take 4 (cellBytes (x ∷ xs) ++ t)) ≡ x = ap (λ l. numberOf (take 4 l)) split ∙ ap numberOf (take-at (bytesOf 4 x) _ 4 (bytes-length 4 x)) ∙ number-bytes 4 x (h 0) in
+    let one : numberOf (take 4 (cellBytes (x ∷ xs) ++ t)) ≡ x =
+    ap (λ l. numberOf (take 4 l)) split ∙ ap numberOf (take-at (bytesOf 4 x) _ 4 (bytes-length 4 x)) ∙ number-bytes 4 x (h 0) in
     let rest : drop 4 (cellBytes (x ∷ xs) ++ t) ≡ cellBytes xs ++ t = ap (drop 4) split ∙ drop-at (bytesOf 4 x) _ 4 (bytes-length 4 x) in
     ap₂ _∷_ one (ap (numbersIn (length xs)) rest ∙ numbers-bytes xs t (λ i. h (suc i)))
 

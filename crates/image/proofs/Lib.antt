@@ -4,7 +4,6 @@ pub mod Puts
 pub mod Bodies
 pub mod Chains
 pub mod Turns
-pub mod Marks
 pub mod Spelling
 pub mod Limits
 pub mod Answers

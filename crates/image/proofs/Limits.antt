@@ -10,16 +10,16 @@ use mathlib.Core.Path.{_≡_, sym, ap, _∙_}
 use mathlib.Core.Bool.{true}
 use mathlib.Core.List.{List, [], _∷_}
 use native.Mathlib.Omega.{arith}
-use lib.Dec.{lit<, leb}
+use lib.Dec.{lit<, lit≤, leb}
 use lib.ListN.{length, take}
 use lib.Seq.{length-take-le}
-use Rattle.rule.specs.Cells.{Rising}
+use Rattle.lists.specs.Lists.{Rising}
+use Rattle.lists.proofs.Searches.{greatest-to}
 use Rattle.rule.specs.Rule.{top}
-use Rattle.rule.proofs.Lists.{greatest-to}
 use Rattle.sketch.specs.declared.Sketch.{Sketch}
 use Rattle.sketch.specs.Sketches.{sketchAt, cellsOf, isSketch, Sound}
 use Rattle.sketch.proofs.Facts.{sketch-facts, made-count, count-few}
-use Rattle.image.specs.Images.{blocksFor, imageOf, Writable}
+use Rattle.image.specs.Images.{mark, blocksFor, imageOf, Writable}
 use Rattle.image.proofs.Fields.{Fours}
 use Rattle.image.proofs.Bodies.{Narrow, pad-length}
 use Rattle.image.proofs.Spelling.{image-length}
@@ -57,15 +57,16 @@ module _ (k : Sketch) (w : Sound k) where
 
   pub size : length (imageOf k) ≡ 512 * (1 + blocksFor (k .count))
   unfolding imageOf
-  size = image-length (k .settings) (k .level) (cellsOf k) ∙ ap (λ c. 512 * (1 + blocksFor c)) (sym (made-count k (w .made)))
+  size = image-length mark [] (k .settings) (k .level) (cellsOf k) (lit≤ tt) ∙ ap (λ c. 512 * (1 + blocksFor c)) (sym (made-count k (w .made)))
 
-  pub writable : (room : List ℕ) → 512 * (1 + blocksFor (k .count)) ≤ length room
-      → Writable (length (take (512 * (1 + blocksFor (k .count)) - 0) room)) (k .settings) (k .level) (length (take (k .count) (k .cells)))
-  writable room h =
+  pub writable : (room : List ℕ) (m : ℕ) → m ≡ blocksFor (k .count) → 512 * (1 + m) ≤ length room
+      → Writable (length (take (512 * (1 + m) - 0) room)) (k .settings) (k .level) (length (take (k .count) (k .cells)))
+  writable room m e h =
       let c : k .count ≤ 504 = count-few k w in
       let n : length (take (k .count) (k .cells)) ≡ k .count = length-take-le (k .count) (k .cells) (omega (arith, row)) in
-      let l : length (take (512 * (1 + blocksFor (k .count)) - 0) room) ≡ 512 * (1 + blocksFor (k .count)) - 0 = length-take-le (512 * (1 + blocksFor (k .count)) - 0) room (omega arith) in
-      record { size = l ∙ omega arith ∙ ap (λ m. 512 * (1 + blocksFor m)) (sym n); capacity = narrow .capacity; low = low; few = omega arith }
+      let l : length (take (512 * (1 + m) - 0) room) ≡ 512 * (1 + m) - 0 = length-take-le (512 * (1 + m) - 0) room (omega arith) in
+      let size : 512 * (1 + m) - 0 ≡ 512 * (1 + blocksFor (k .count)) = omega (arith, e) in
+      record { size = l ∙ size ∙ ap (λ c. 512 * (1 + blocksFor c)) (sym n); capacity = narrow .capacity; low = low; few = omega arith }
 
 pub sketch-length : (k : Sketch) → isSketch k ≡ true → (length (imageOf k) ≡ 512 * (1 + blocksFor (k .count))) × (length (imageOf k) ≤ 2560)
 sketch-length k e =

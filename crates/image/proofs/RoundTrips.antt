@@ -10,31 +10,33 @@ use mathlib.Core.Path.{_≡_, refl, sym, ap, ap₂, _∙_}
 use mathlib.Core.Bool.{Bool, true, false, not, cond, _&&_, and-eq-true-iff}
 use mathlib.Core.List.{List, []}
 use native.Mathlib.Omega.{arith}
-use lib.Dec.{ltb}
+use lib.Dec.{ltb, lit<, lit≤}
+use Prim.{tt}
 use lib.ListN.{length, drop}
-use lib.Seq.{take-at}
 use borrow.Author.Tests.{le-leb, eq-eqb, le-ltb}
+use Rattle.lists.specs.Lists.{same}
+use Rattle.lists.specs.Searches.{least}
+use Rattle.lists.proofs.Same.{same-true, same-self}
 use Rattle.rule.specs.declared.answers.Written.{Written}
-use Rattle.rule.specs.Cells.{least}
 use Rattle.rule.specs.Rule.{isGood}
 use Rattle.rule.specs.Refusals.{Paper, answered, refused, unless, badSettings, badCheck, badImage}
 use Rattle.rule.proofs.Facts.{facts-good}
 use Rattle.rule.proofs.Readings.{written-one, taken-one}
-use Rattle.block.specs.Little.{Bytes}
-use Rattle.block.specs.Sums.{blockGood, sealed}
-use Rattle.block.proofs.Blocks.{sealed-length, sealed-good}
+use Rattle.find.proofs.Checks.{unless-told}
+use Rattle.block.specs.Little.{Bytes, numberOf}
+use Rattle.block.specs.Sums.{blockGood}
+use Rattle.block.proofs.Blocks.{sealed-good}
 use Rattle.sketch.specs.declared.Sketch.{Sketch}
 use Rattle.sketch.specs.Sketches.{cellsOf, isSketch, Sound}
 use Rattle.sketch.proofs.Facts.{sketch-facts, facts-sketch}
 use Rattle.image.specs.declared.Loaded.{Loaded}
-use Rattle.image.specs.Images.{headOf, blocksFor, cellBlocks, imageAs, imageOf, settingsIn, levelIn, countIn, allCells, spelled}
+use Rattle.image.specs.Images.{mark, headWith, blocksFor, cellBlocks, imageWith, imageOf, saidSettings, saidLevel, saidCount, allCells, spelled}
 use Rattle.image.specs.Shapes.{blockAt, blocksIn, firstWrong}
-use Rattle.image.specs.Calls.{same, rightLength, marked, isImage, readMarked, readOn, Writes, Reads}
-use Rattle.image.proofs.Bodies.{head-length, head-settings, head-level, head-count}
+use Rattle.image.specs.Calls.{rightLength, marked, isImage, readMarked, readOn, Writes, Reads}
+use Rattle.image.proofs.Bodies.{head-length, head-mark, head-settings, head-level, head-count}
 use Rattle.image.proofs.Chains.{made-cells, made-good, block-next}
-use Rattle.image.proofs.Marks.{same-true, same-self}
 use Rattle.image.proofs.Limits.{few, narrow, low, fours}
-use Rattle.image.proofs.Spelling.{image-length, image-small, image-rest}
+use Rattle.image.proofs.Spelling.{image-length, image-small, image-front, image-rest}
 
 -- a search that finds nothing
 least-none : (q : ℕ → Bool) (k m : ℕ) → ((j : ℕ) → m ≤ j → j < m + k → q j ≡ false) → least q k m ≡ m + k
@@ -45,7 +47,7 @@ least-none q (suc k) m f =
 
 pub image-bytes : (k : Sketch) → Bytes (imageOf k)
 unfolding imageOf
-image-bytes k = image-small (k .settings) (k .level) (cellsOf k)
+image-bytes k = image-small mark [] (k .settings) (k .level) (cellsOf k) (λ i. lit< tt)
 
 module _ (k : Sketch) (w : Sound k) where
   abbrev xs : List ℕ
@@ -53,23 +55,23 @@ module _ (k : Sketch) (w : Sound k) where
 
   whole : length (imageOf k) ≡ 512 * (1 + blocksFor (length xs))
   unfolding imageOf
-  whole = image-length (k .settings) (k .level) xs
+  whole = image-length mark [] (k .settings) (k .level) xs (lit≤ tt)
 
   rest : drop 512 (imageOf k) ≡ cellBlocks (blocksFor (length xs)) 1 xs
   unfolding imageOf
-  rest = image-rest (k .settings) (k .level) xs
+  rest = image-rest mark [] (k .settings) (k .level) xs (lit≤ tt)
 
-  said-settings : settingsIn (imageOf k) ≡ k .settings
-  unfolding imageOf imageAs
-  said-settings = head-settings (k .settings) (k .level) (length xs) (cellBlocks (blocksFor (length xs)) 1 xs) (narrow k w)
+  said-settings : saidSettings (imageOf k) ≡ k .settings
+  unfolding imageOf imageWith
+  said-settings = head-settings mark [] (k .settings) (k .level) (length xs) (cellBlocks (blocksFor (length xs)) 1 xs) (narrow k w)
 
-  said-level : levelIn (imageOf k) ≡ k .level
-  unfolding imageOf imageAs
-  said-level = head-level (k .settings) (k .level) (length xs) (cellBlocks (blocksFor (length xs)) 1 xs) (low k w)
+  said-level : saidLevel (imageOf k) ≡ k .level
+  unfolding imageOf imageWith
+  said-level = head-level mark [] (k .settings) (k .level) (length xs) (cellBlocks (blocksFor (length xs)) 1 xs) (low k w)
 
-  said-count : countIn (imageOf k) ≡ length xs
-  unfolding imageOf imageAs
-  said-count = head-count (k .settings) (k .level) (length xs) (cellBlocks (blocksFor (length xs)) 1 xs) (omega (arith, few k w))
+  said-count : saidCount (imageOf k) ≡ length xs
+  unfolding imageOf imageWith
+  said-count = head-count mark [] (k .settings) (k .level) (length xs) (cellBlocks (blocksFor (length xs)) 1 xs) (omega (arith, few k w))
 
   said-cells : allCells (imageOf k) ≡ xs
   unfolding allCells
@@ -92,10 +94,10 @@ module _ (k : Sketch) (w : Sound k) where
   blocks = let n : length (imageOf k) ≡ 512 * (1 + blocksFor (length xs)) = whole in omega arith
 
   first-good : blockGood (blockAt 0 (imageOf k)) ≡ true
-  unfolding imageOf imageAs
+  unfolding imageOf
   first-good =
-      let l = head-length (k .settings) (k .level) (length xs) in
-      ap blockGood (take-at (sealed (headOf (k .settings) (k .level) (length xs))) (cellBlocks (blocksFor (length xs)) 1 xs) 512 (sealed-length (headOf (k .settings) (k .level) (length xs)) l)) ∙ sealed-good (headOf (k .settings) (k .level) (length xs)) l
+      ap blockGood (image-front mark [] (k .settings) (k .level) xs (lit≤ tt))
+      ∙ sealed-good (headWith mark [] (k .settings) (k .level) (length xs)) (head-length mark (k .settings) (k .level) (length xs) [] (lit≤ tt))
 
   all-good : (j : ℕ) → j < blocksIn (imageOf k) → blockGood (blockAt j (imageOf k)) ≡ true
   all-good zero h = first-good
@@ -106,8 +108,8 @@ module _ (k : Sketch) (w : Sound k) where
   none-wrong = least-none (λ i. not (blockGood (blockAt i (imageOf k)))) (blocksIn (imageOf k)) 0 (λ j a b. ap not (all-good j (omega arith))) ∙ omega arith
 
   begins : marked (imageOf k) ≡ true
-  unfolding marked same imageOf imageAs sealed headOf
-  begins = refl
+  unfolding marked mark numberOf imageOf imageWith
+  begins = eq-eqb _ _ (head-mark mark [] (k .settings) (k .level) (length xs) (cellBlocks (blocksFor (length xs)) 1 xs) (lit< tt))
 
   is-image : isImage (imageOf k) ≡ true
   unfolding isImage
@@ -115,7 +117,9 @@ module _ (k : Sketch) (w : Sound k) where
 
   accepted : readOn (imageOf k) ≡ answered []
   unfolding readOn readMarked
-  accepted = rw (lengths, le-ltb (firstWrong (imageOf k)) (blocksIn (imageOf k)) (omega (arith, none-wrong)), begins, said-settings, facts-good (k .settings) (w .settings), is-image)
+  accepted =
+      let right = le-ltb (firstWrong (imageOf k)) (blocksIn (imageOf k)) (omega (arith, none-wrong)) in
+      rw (lengths, right, begins, said-settings, facts-good (k .settings) (w .settings), is-image)
 
 pub read-back : (k : Sketch) → isSketch k ≡ true → (readOn (imageOf k) ≡ answered []) × (spelled (imageOf k) ≡ k)
 read-back k e = (accepted k (sketch-facts k e), spells k (sketch-facts k e))
@@ -123,23 +127,20 @@ read-back k e = (accepted k (sketch-facts k e), spells k (sketch-facts k e))
 pub one-image : (j k : Sketch) → isSketch j ≡ true → isSketch k ≡ true → imageOf j ≡ imageOf k → j ≡ k
 one-image j k a b e = sym (read-back j a .1) ∙ ap spelled e ∙ read-back k b .1
 
--- where an answer isn't a refusal, its tests hold
-unless-done : (t : Bool) (number : ℕ) (p : Paper) → unless t number p ≡ answered [] → (t ≡ true) × (p ≡ answered [])
-unless-done true number p e = (refl, e)
-unless-done false number p e = let z : _≡_ {A = ℕ} 0 1 = cc in absurd (omega arith)
-
-cond-done : (t : Bool) (number block : ℕ) (p : Paper) → cond t (refused number block) p ≡ answered [] → p ≡ answered []
-cond-done true number block p e = let z : _≡_ {A = ℕ} 0 1 = cc in absurd (omega arith)
-cond-done false number block p e = e
+-- an answer isn't a refusal
+cond-done : (t : Bool) (number place : ℕ) (p : Paper) → cond t (refused number place) p ≡ answered [] → p ≡ answered []
+cond-done true number place p e = let z : _≡_ {A = ℕ} 0 1 = cc in absurd (omega arith)
+cond-done false number place p e = e
 
 pub write-back : (s : List ℕ) → readOn s ≡ answered [] → (imageOf (spelled s) ≡ s) × (isSketch (spelled s) ≡ true)
 unfolding readOn readMarked isImage
 write-back s e =
     let p : Paper = unless (marked s) badImage (readMarked s) in
     let wrong : Bool = ltb (firstWrong s) (blocksIn s) in
-    let a = unless-done (rightLength (length s)) badImage (cond wrong (refused badCheck (firstWrong s)) p) e .1 in
-    let b = unless-done (marked s) badImage (readMarked s) (cond-done wrong badCheck (firstWrong s) p a) .1 in
-    let c = unless-done (isImage s) badImage (answered []) (unless-done (isGood (settingsIn s)) badSettings (unless (isImage s) badImage (answered [])) b .1) .0 in
+    let a = unless-told (rightLength (length s)) badImage (cond wrong (refused badCheck (firstWrong s)) p) [] e .1 in
+    let b = unless-told (marked s) badImage (readMarked s) [] (cond-done wrong badCheck (firstWrong s) p a) .1 in
+    let g = unless-told (isGood (saidSettings s)) badSettings (unless (isImage s) badImage (answered [])) [] b .1 in
+    let c = unless-told (isImage s) badImage (answered []) [] g .0 in
     let h = and-eq-true-iff (isSketch (spelled s)) (same s (imageOf (spelled s))) .0 c in
     (sym (same-true s (imageOf (spelled s)) (h .1)), h .0)
 

@@ -1,6 +1,5 @@
 -- One turn of each loop over bytes.
---     clear-more      one zero more
---     zero-more, zero-end     one byte more is tested
+--     clear-more, clear-end     one zero more, and zeros alone
 --     copy-more       one cell more is copied
 --     wrong-start, wrong-here, wrong-later, wrong-none     the search for a block whose check is wrong
 --     block-part, block-length     a block as a part of the bytes
@@ -11,19 +10,20 @@
 -- Assumes nothing.
 use Prim.Native.Nat.{ℕ, suc, _+_, _*_, _-_, _<_, _≤_, min}
 use mathlib.Core.Path.{_≡_, sym, ap, ap₂, _∙_}
-use mathlib.Core.Bool.{Bool, true, false, cond, not, _&&_, and-assoc, and-true}
+use mathlib.Core.Bool.{Bool, true, false, cond, not, _&&_}
 use mathlib.Core.List.{List, [], _∷_, _++_, append-assoc, append-nil}
 use mathlib.Core.Logic.{⊎-elim}
 use native.Mathlib.Numerals.{add-one}
 use native.Mathlib.Omega.{arith}
-use lib.Dec.{eqb, leb}
-use lib.ListN.{length, take, drop, getD, set, replicate, replicate-append-replicate, drop-of-length-le, length-drop, length-append, length-take}
-use lib.Seq.{take-suc-set, drop-cons, drop-drop, length-take-le, take-add, take-all, take-at}
+use lib.Dec.{leb}
+use lib.ListN.{length, take, drop, set, replicate, replicate-append-replicate, length-drop, length-append, length-take}
+use lib.Seq.{take-suc-set, drop-drop, length-take-le, take-add, take-all, take-at}
 use borrow.Author.Tests.{leb-true, leb-false}
-use Rattle.rule.specs.Cells.{least}
-use Rattle.rule.specs.Rows.{allZero, pad, placed}
-use Rattle.rule.proofs.Lists.{tested, least-now}
-use Rattle.rule.proofs.Places.{placed-after}
+use Rattle.lists.specs.Searches.{least}
+use Rattle.lists.specs.Rows.{pad, placed}
+use Rattle.lists.proofs.Tests.{tested}
+use Rattle.lists.proofs.Searches.{least-now}
+use Rattle.lists.proofs.Places.{placed-after}
 use Rattle.block.specs.Little.{numberAt}
 use Rattle.block.specs.Sums.{blockGood, sealed}
 use Rattle.image.specs.Images.{blocksFor, numbersIn, cellsIn, bodyOf, cellBlocks}
@@ -39,20 +39,14 @@ stored s i x h = rw (add-one, take-suc-set s i x h)
 pub clear-more : (s : List ℕ) (i : ℕ) → i < length s → take i s ≡ replicate i 0 → take (i + 1) (set s i 0) ≡ replicate (i + 1) 0
 clear-more s i h e = stored s i 0 h ∙ ap (λ l. l ++ (0 ∷ [])) e ∙ replicate-append-replicate i 1 0
 
+pub clear-end : (s : List ℕ) (i n : ℕ) → length s ≤ i → i ≡ n → take i s ≡ replicate i 0 → s ≡ replicate n 0
+clear-end s i n h e z = sym (take-all i s h) ∙ z ∙ ap (λ k. replicate k 0) e
+
 pub copy-more : (row s : List ℕ) (j x : ℕ) → j < length row → x ≡ numberAt 4 (4 + 4 * j) s → take j row ≡ numbersIn j (drop 4 s)
     → take (j + 1) (set row j x) ≡ numbersIn (j + 1) (drop 4 s)
 copy-more row s j x h v e =
     let n : x ≡ numberAt 4 (4 * j) (drop 4 s) = v ∙ rw (drop-drop (4 * j) 4 s) in
     stored row j x h ∙ ap₂ (λ l y. l ++ (y ∷ [])) e n ∙ sym (numbers-more j (drop 4 s))
-
-pub zero-more : (s : List ℕ) (i : ℕ) (t r : Bool) → i < length s → (t && allZero (drop i s)) ≡ r
-    → ((t && eqb (getD s i 0) 0) && allZero (drop (i + 1) s)) ≡ r
-zero-more s i t r h e =
-    let next : drop i s ≡ getD s i 0 ∷ drop (i + 1) s = rw add-one (drop-cons s i 0 h) in
-    and-assoc t (eqb (getD s i 0) 0) (allZero (drop (i + 1) s)) ∙ ap (λ l. t && allZero l) (sym next) ∙ e
-
-pub zero-end : (s : List ℕ) (i : ℕ) (t : Bool) → length s ≤ i → (t && allZero (drop i s)) ≡ allZero s → t ≡ allZero s
-zero-end s i t h e = sym (and-true t) ∙ ap (λ l. t && allZero l) (sym (drop-of-length-le s h)) ∙ e
 
 pub block-part : (i : ℕ) (s : List ℕ) → take (512 * i + 512 - 512 * i) (drop (512 * i) s) ≡ blockAt i s
 block-part i s = let e : 512 * i + 512 - 512 * i ≡ 512 = omega arith in rw e
@@ -89,7 +83,8 @@ mid-placed row ys a k e = rw (← e, drop-drop (length ys) a row)
 
 -- the tests of the cell blocks
 module _ (m i count : ℕ) (s : List ℕ) (r : Bool) (h : i < m) (e : blocksShaped (m - i) (i + 1) (count - 126 * i) (drop (512 * i) s) ≡ r)
-    (t : Bool) (many : ℕ) (few : many ≡ min 126 (count - 126 * i)) (this : t ≡ blockShaped (i + 1) many (take (512 * i + 512 - 512 * i) (drop (512 * i) s))) where
+    (t : Bool) (many : ℕ) (few : many ≡ min 126 (count - 126 * i))
+    (this : t ≡ blockShaped (i + 1) many (take (512 * i + 512 - 512 * i) (drop (512 * i) s))) where
   shaped-here : (t && blocksShaped (m - (i + 1)) (i + 1 + 1) (count - 126 * (i + 1)) (drop (512 * (i + 1)) s)) ≡ r
   shaped-here = rw (this, few, block-part i s) (sym (shaped-turn m i h count s) ∙ e)
 
@@ -143,8 +138,10 @@ module _ (i count : ℕ) (s row : List ℕ) (h : i < blocksFor count) (c : count
       ∙ ap (λ l. pad 504 (take (126 * i) all ++ l)) is
       ∙ ap (pad 504) (sym (ap (λ k. take k all) next ∙ take-add (126 * i) 126 all))
 
-pub cells-end : (i count : ℕ) (s : List ℕ) → blocksFor count ≤ i → pad 504 (take (126 * i) (cellsIn (blocksFor count) count s)) ≡ pad 504 (cellsIn (blocksFor count) count s)
-cells-end i count s h = ap (pad 504) (take-all (126 * i) (cellsIn (blocksFor count) count s) (omega (arith, cells-length (blocksFor count) count s (omega arith))))
+pub cells-end : (i count : ℕ) (s : List ℕ) → blocksFor count ≤ i
+    → pad 504 (take (126 * i) (cellsIn (blocksFor count) count s)) ≡ pad 504 (cellsIn (blocksFor count) count s)
+cells-end i count s h =
+    ap (pad 504) (take-all (126 * i) (cellsIn (blocksFor count) count s) (omega (arith, cells-length (blocksFor count) count s (omega arith))))
 
 -- a part is cut off at the end
 cut : (k n : ℕ) (l : List ℕ) → n ≡ min k (length l) → take n l ≡ take k l
@@ -169,7 +166,8 @@ module _ (i : ℕ) (xs room w : List ℕ) (m : ℕ) (h : i < m) (l : 512 * i + 5
       let size : length ys ≡ 512 = ap length is ∙ one-length (i + 1) xs′ in
       let front : length (take (512 * i) room ++ ys) ≡ 512 * (i + 1) = rw (length-append, length-take-le (512 * i) room (omega arith), size) (omega arith) in
       let after : List ℕ = drop (512 * i + 512 - 512 * i) (drop (512 * i) room) in
-      ap (λ t. t ++ tail) (ap (take (512 * (i + 1))) (sym (append-assoc (take (512 * i) room) ys after)) ∙ take-at (take (512 * i) room ++ ys) after (512 * (i + 1)) front)
+      ap (λ t. t ++ tail)
+      (ap (take (512 * (i + 1))) (sym (append-assoc (take (512 * i) room) ys after)) ∙ take-at (take (512 * i) room ++ ys) after (512 * (i + 1)) front)
       ∙ append-assoc (take (512 * i) room) ys tail
       ∙ ap (λ t. take (512 * i) room ++ (t ++ tail)) is
       ∙ ap (λ t. take (512 * i) room ++ t) (sym (blocks-on m i h xs))

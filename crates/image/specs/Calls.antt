@@ -1,38 +1,33 @@
 -- What writing and reading answer, and what they leave and hand back. Assumes nothing: these are definitions.
 use Prim.Native.Nat.{ℕ, _%_}
 use mathlib.Core.Path.{_≡_}
-use mathlib.Core.Bool.{Bool, true, false, cond, _&&_}
+use mathlib.Core.Bool.{Bool, true, cond, _&&_}
 use mathlib.Core.List.{List, [], _∷_}
 use lib.Dec.{leb, ltb, eqb}
-use lib.ListN.{length, take}
+use lib.ListN.{length}
+use Rattle.lists.specs.Lists.{same}
+use Rattle.lists.specs.Rows.{placed}
 use Rattle.rule.specs.declared.answers.Written.{Written}
 use Rattle.rule.specs.declared.answers.Taken.the-variants.{Refused}
-use Rattle.rule.specs.Rule.{isGood}
-use Rattle.rule.specs.Rows.{placed}
+use Rattle.rule.specs.Rule.{isGood, noSettings}
 use Rattle.rule.specs.Refusals.{Paper, answered, refused, unless, badSettings, notOne, noRoom, badCheck, badImage, ofWritten, ofTaken}
-use Rattle.block.specs.Little.{Bytes}
+use Rattle.block.specs.Little.{Bytes, numberAt}
 use Rattle.sketch.specs.declared.Sketch.{Sketch}
 use Rattle.sketch.specs.Sketches.{held, isSketch}
 use Rattle.sketch.specs.Calls.{noSketch, handed}
 use Rattle.image.specs.declared.Loaded.{Loaded}
 use Rattle.image.specs.declared.Header.{Header}
-use Rattle.image.specs.Images.{mark, imageOf, settingsIn, spelled}
+use Rattle.image.specs.Images.{mark, imageOf, saidSettings, spelled}
 use Rattle.image.specs.Shapes.{Blocks, blocksIn, firstWrong}
 
--- the same numbers in the same order
-unfoldable pub same : List ℕ → List ℕ → Bool
-same [] [] = true
-same [] (y ∷ ys) = false
-same (x ∷ xs) [] = false
-same (x ∷ xs) (y ∷ ys) = eqb x y && same xs ys
-
+-- RULES: Refusals
 unfoldable pub writeOn : Sketch → ℕ → Paper
 writeOn k room = unless (isSketch k) notOne (unless (leb (length (imageOf k)) room) noRoom (answered (length (imageOf k) ∷ [])))
 
 -- the room after a call: the image at its start, or untouched with a refusal
 abbrev pub roomAfter : Paper → Sketch → List ℕ → List ℕ
 roomAfter (answered values) k room = placed room 0 (imageOf k)
-roomAfter (refused number block) k room = room
+roomAfter (refused number place) k room = room
 
 -- what writing promises
 pub record Writes (k : Sketch) (room : List ℕ) (r : Written) (after : List ℕ) : Type 0 where
@@ -43,9 +38,9 @@ pub record Writes (k : Sketch) (room : List ℕ) (r : Written) (after : List ℕ
 unfoldable pub rightLength : ℕ → Bool
 rightLength n = leb 1 n && (leb n 2560 && eqb (n % 512) 0)
 
--- the image begins with the four bytes
+-- the image begins with the mark
 unfoldable pub marked : List ℕ → Bool
-marked s = same (take 4 s) mark
+marked s = eqb (numberAt 4 0 s) mark
 
 -- what is known of bytes once the checks and the mark are right
 pub record Checked (s : List ℕ) : Type 0 where
@@ -60,16 +55,17 @@ isImage s = isSketch (spelled s) && same s (imageOf (spelled s))
 
 -- once the checks and the mark are right
 unfoldable pub readMarked : List ℕ → Paper
-readMarked s = unless (isGood (settingsIn s)) badSettings (unless (isImage s) badImage (answered []))
+readMarked s = unless (isGood (saidSettings s)) badSettings (unless (isImage s) badImage (answered []))
 
+-- RULES: Refusals
 unfoldable pub readOn : List ℕ → Paper
 readOn s =
     unless (rightLength (length s)) badImage
     (cond (ltb (firstWrong s) (blocksIn s)) (refused badCheck (firstWrong s)) (unless (marked s) badImage (readMarked s)))
 
 -- a refusal, with zeros for the settings, the level and the number of cells
-abbrev pub refusedWith : ℕ → ℕ → Header
-refusedWith number block = record { taken = Refused number block; settings = record { n = 0; p = 0; a = 0; b = 0; capacity = 0 }; level = 0; count = 0 }
+abbrev pub refusedHeader : ℕ → ℕ → Header
+refusedHeader number place = record { taken = Refused number place; settings = noSettings; level = 0; count = 0 }
 
 -- an answer, and the sketch of the header's parts and a row of cells
 abbrev pub loadedWith : Header → List ℕ → Loaded
@@ -77,13 +73,13 @@ loadedWith h cells = record { taken = h .taken; sketch = held (h .settings) (h .
 
 -- the number of the refusal of bytes with right checks and mark: 1 comes before 8
 unfoldable pub faultIn : List ℕ → ℕ
-faultIn s = cond (isGood (settingsIn s)) badImage badSettings
+faultIn s = cond (isGood (saidSettings s)) badImage badSettings
 
 -- an answer, and the sketch beside it: the one that the bytes spell, or the all-zero one with a refusal
-pub record Hands (paper : Paper) (s : List ℕ) (r : Loaded) : Type 0 where
+pub record HandsOver (paper : Paper) (s : List ℕ) (r : Loaded) : Type 0 where
   pub answer : ofTaken (r .taken) ≡ paper
   pub sketch : r .sketch ≡ handed paper (spelled s) noSketch
 
 -- what reading promises
 abbrev pub Reads : List ℕ → Loaded → Type 0
-Reads s r = Hands (readOn s) s r
+Reads s r = HandsOver (readOn s) s r

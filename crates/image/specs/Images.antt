@@ -3,31 +3,39 @@ use Prim.Native.Nat.{ℕ, zero, suc, _+_, _*_, _-_, _/_, _<_, _≤_, min}
 use mathlib.Core.Path.{_≡_}
 use mathlib.Core.List.{List, [], _∷_, _++_}
 use lib.ListN.{length, take, drop}
+use Rattle.lists.specs.Rows.{pad}
 use Rattle.rule.specs.declared.Settings.{Settings}
-use Rattle.rule.specs.Rows.{pad}
 use Rattle.block.specs.Little.{bytesOf, numberOf, numberAt}
 use Rattle.block.specs.Sums.{sealed}
 use Rattle.sketch.specs.declared.Sketch.{Sketch}
 use Rattle.sketch.specs.Sketches.{sketchAt, cellsOf}
 
--- the four bytes that an image begins with
-abbrev pub mark : List ℕ
-mark = 80 ∷ 79 ∷ 84 ∷ 49 ∷ []
+-- the four bytes that an image begins with, as a number
+unfoldable pub mark : ℕ
+mark = numberOf (0x50 ∷ 0x4f ∷ 0x54 ∷ 0x31 ∷ [])
 
 -- the settings: four numbers of four bytes, and the capacity
 unfoldable pub settingsBytes : Settings → List ℕ
 settingsBytes s = bytesOf 4 (s .n) ++ (bytesOf 4 (s .p) ++ (bytesOf 4 (s .a) ++ (bytesOf 4 (s .b) ++ bytesOf 2 (s .capacity))))
 
--- what block 0 says: the mark, the settings, the level and the number of cells, and zeros
-unfoldable pub headOf : Settings → ℕ → ℕ → List ℕ
-headOf s level count = pad 508 (mark ++ (settingsBytes s ++ (bytesOf 2 level ++ bytesOf 2 count)))
+-- the fields of block 0: a mark, the settings, the level and the number of cells
+unfoldable pub fieldsOf : ℕ → Settings → ℕ → ℕ → List ℕ
+fieldsOf m s level count = bytesOf 4 m ++ (settingsBytes s ++ (bytesOf 2 level ++ bytesOf 2 count))
+
+-- the place after the fields
+abbrev pub fieldsEnd : ℕ
+fieldsEnd = 26
+
+-- what block 0 says, for any mark: the fields, the bytes that follow them, and zeros (RULES: Image)
+unfoldable pub headWith : ℕ → List ℕ → Settings → ℕ → ℕ → List ℕ
+headWith m tail s level count = pad 508 (fieldsOf m s level count ++ tail)
 
 -- cells of four bytes each
 unfoldable pub cellBytes : List ℕ → List ℕ
 cellBytes [] = []
 cellBytes (x ∷ xs) = bytesOf 4 x ++ cellBytes xs
 
--- what a cell block says: its number, how many cells it holds, the cells, and zeros
+-- what a cell block says: its number, how many cells it holds, the cells, and zeros (RULES: Image)
 unfoldable pub bodyOf : ℕ → List ℕ → List ℕ
 bodyOf i xs = pad 508 (bytesOf 2 i ++ (bytesOf 2 (length xs) ++ cellBytes xs))
 
@@ -41,10 +49,14 @@ cellBlocks zero i xs = []
 cellBlocks (suc m) i xs = sealed (bodyOf i (take 126 xs)) ++ cellBlocks m (suc i) (drop 126 xs)
 
 -- block 0, and the cell blocks 1, 2, ..
-unfoldable pub imageAs : Settings → ℕ → List ℕ → List ℕ
-imageAs s level xs = sealed (headOf s level (length xs)) ++ cellBlocks (blocksFor (length xs)) 1 xs
+unfoldable pub imageWith : ℕ → List ℕ → Settings → ℕ → List ℕ → List ℕ
+imageWith m tail s level xs = sealed (headWith m tail s level (length xs)) ++ cellBlocks (blocksFor (length xs)) 1 xs
 
--- the image of a sketch
+-- with the mark of an image, and nothing after the fields
+abbrev pub imageAs : Settings → ℕ → List ℕ → List ℕ
+imageAs s level xs = imageWith mark [] s level xs
+
+-- the image of a sketch (RULES: Image)
 unfoldable pub imageOf : Sketch → List ℕ
 imageOf k = imageAs (k .settings) (k .level) (cellsOf k)
 
@@ -56,16 +68,16 @@ pub record Writable (room : ℕ) (s : Settings) (level count : ℕ) : Type 0 whe
   pub few : count ≤ 504
 
 -- the settings in block 0
-unfoldable pub settingsIn : List ℕ → Settings
-settingsIn s = record { n = numberAt 4 4 s; p = numberAt 4 8 s; a = numberAt 4 12 s; b = numberAt 4 16 s; capacity = numberAt 2 20 s }
+unfoldable pub saidSettings : List ℕ → Settings
+saidSettings s = record { n = numberAt 4 4 s; p = numberAt 4 8 s; a = numberAt 4 12 s; b = numberAt 4 16 s; capacity = numberAt 2 20 s }
 
 -- the level in block 0
-unfoldable pub levelIn : List ℕ → ℕ
-levelIn s = numberAt 2 22 s
+unfoldable pub saidLevel : List ℕ → ℕ
+saidLevel s = numberAt 2 22 s
 
 -- the number of cells in block 0
-unfoldable pub countIn : List ℕ → ℕ
-countIn s = numberAt 2 24 s
+unfoldable pub saidCount : List ℕ → ℕ
+saidCount s = numberAt 2 24 s
 
 -- so many numbers of four bytes each
 unfoldable pub numbersIn : ℕ → List ℕ → List ℕ
@@ -79,8 +91,8 @@ cellsIn (suc m) count s = numbersIn (min 126 count) (drop 4 (take 512 s)) ++ cel
 
 -- all cells of an image: as many as block 0 says
 unfoldable pub allCells : List ℕ → List ℕ
-allCells s = cellsIn (blocksFor (countIn s)) (countIn s) (drop 512 s)
+allCells s = cellsIn (blocksFor (saidCount s)) (saidCount s) (drop 512 s)
 
 -- the sketch that bytes spell
 unfoldable pub spelled : List ℕ → Sketch
-spelled s = sketchAt (settingsIn s) (levelIn s) (allCells s)
+spelled s = sketchAt (saidSettings s) (saidLevel s) (allCells s)

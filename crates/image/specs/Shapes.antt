@@ -5,15 +5,15 @@ use mathlib.Core.Bool.{Bool, true, not, _&&_}
 use mathlib.Core.List.{List}
 use lib.Dec.{eqb}
 use lib.ListN.{length, take, drop}
-use Rattle.rule.specs.Cells.{least}
-use Rattle.rule.specs.Rows.{allZero}
+use Rattle.lists.specs.Searches.{least}
+use Rattle.lists.specs.Rows.{allZero}
 use Rattle.block.specs.Little.{numberAt}
 use Rattle.block.specs.Sums.{blockGood}
-use Rattle.image.specs.Images.{blocksFor, countIn}
+use Rattle.image.specs.Images.{blocksFor, saidCount}
 
 -- the bytes from place a to before place e
-abbrev pub between : ℕ → ℕ → List ℕ → List ℕ
-between a e s = take (e - a) (drop a s)
+abbrev pub span : ℕ → ℕ → List ℕ → List ℕ
+span a e s = take (e - a) (drop a s)
 
 -- block i, counted from 0
 abbrev pub blockAt : ℕ → List ℕ → List ℕ
@@ -35,15 +35,15 @@ pub record Blocks (s : List ℕ) : Type 0 where
 
 -- a cell block says its number and how many cells it holds, and has zeros after them
 unfoldable pub blockShaped : ℕ → ℕ → List ℕ → Bool
-blockShaped i many s = eqb (numberAt 2 0 s) i && (eqb (numberAt 2 2 s) many && allZero (between (4 + 4 * many) 508 s))
+blockShaped i many s = eqb (numberAt 2 0 s) i && (eqb (numberAt 2 2 s) many && allZero (span (4 + 4 * many) 508 s))
 
 -- so do m cell blocks from block i on, and every one but the last is full
 unfoldable pub blocksShaped : ℕ → ℕ → ℕ → List ℕ → Bool
 blocksShaped zero i count s = true
 blocksShaped (suc m) i count s = blockShaped i (min 126 count) (take 512 s) && blocksShaped m (suc i) (count - 126) (drop 512 s)
 
--- as many blocks as the cells need, zeros at the end of block 0, and cell blocks in order
-unfoldable pub shaped : List ℕ → Bool
-shaped s =
-    eqb (blocksIn s) (1 + blocksFor (countIn s))
-    && (allZero (between 26 508 s) && blocksShaped (blocksFor (countIn s)) 1 (countIn s) (drop 512 s))
+-- as many blocks as the cells need, zeros in block 0 from a place on, and cell blocks in order
+unfoldable pub shaped : ℕ → List ℕ → Bool
+shaped from s =
+    eqb (blocksIn s) (1 + blocksFor (saidCount s))
+    && (allZero (span from 508 s) && blocksShaped (blocksFor (saidCount s)) 1 (saidCount s) (drop 512 s))

@@ -1,5 +1,5 @@
-// Prints one image of each length, 512 to 2,560 bytes, as hex. What it must print was worked out by tests/images.py, which
-// shares nothing with the library.
+// Prints one image of each length, 512 to 2,560 bytes, and one of a sample above level 0, as hex. What it must print was worked
+// out by tests/images.py, which shares nothing with the library.
 use rule::Settings;
 use rule::answers::Written;
 use sketch::Sketch;
@@ -47,7 +47,7 @@ fn print_lines(bytes: &[u8]) {
 
 fn print_image(last: u32) {
     let mut room = [0u8; 2560];
-    io::write_all(OUT, b"cells ");
+    io::write_all(OUT, b"cells seen: ");
     io::print_decimal(OUT, last as u64);
     io::write_all(OUT, b"\n");
     match image::write(seen(last), &mut room) {
@@ -66,4 +66,5 @@ fn main() {
     print_image(200);
     print_image(300);
     print_image(504);
+    print_image(200000);
 }

@@ -1,23 +1,25 @@
--- The kitchen tests of document 01 that are marked: inputs and expected values as data, and what each row says. Assumes nothing: these are definitions.
+-- The marked kitchen tests (RULES: Kitchen tests), and a few of ours after them: inputs and expected values as data, and what
+-- each row says. Assumes nothing: these are definitions.
 use Prim.Native.Nat.{ℕ}
 use mathlib.Core.Path.{_≡_}
 use mathlib.Core.Bool.{Bool, true, false, _&&_, not}
-use mathlib.Core.List.{List, [], _∷_}
+use mathlib.Core.List.{List, [], _∷_, _++_}
 use lib.Dec.{eqb}
 use lib.IntN.{pos}
+use lib.ListN.{replicate}
 use lib.Ieee.{binary64, ofInt}
+use Rattle.lists.specs.Lists.{filter, range, same}
 use Rattle.rule.specs.declared.Settings.{Settings}
-use Rattle.rule.specs.Cells.{filter, range}
-use Rattle.rule.specs.Rule.{hash, region, passes, top}
-use Rattle.rule.specs.Rows.{pad}
+use Rattle.rule.specs.Rule.{hash, region, passes, top, all}
 use Rattle.rule.specs.Refusals.{Paper, answered, refused}
 use Rattle.find.specs.Finding.{countOn}
 use Rattle.sketch.specs.declared.Sketch.{Sketch}
 use Rattle.sketch.specs.Sketches.{isSketch, cellsOf, opened, add}
-use Rattle.sketch.specs.Calls.{openOn}
-use Rattle.sketch.specs.Estimates.{standsFor, estimateOf}
-use Rattle.sketch.specs.declared.estimates.Estimate.the-variants.{About}
-use Rattle.block.specs.Sums.{plainOf, weightedOf}
+use Rattle.sketch.specs.Calls.{openOn, addOn}
+use Rattle.sketch.specs.Estimates.{about, standsFor, estimateOn}
+use Rattle.block.specs.Little.{bytesOf, numberAt}
+use Rattle.block.specs.Sums.{plainOf, weightedOf, sealed}
+use Rattle.image.specs.Images.{bodyOf}
 
 abbrev pub settings : ℕ → ℕ → ℕ → ℕ → ℕ → Settings
 settings n p a b capacity = record { n = n; p = p; a = a; b = b; capacity = capacity }
@@ -56,10 +58,16 @@ Says (passed s level xs) = filter (passes s level) (range 1 (s .n)) ≡ xs
 Says (counted s level lo hi v) = countOn s level lo hi ≡ answered (v ∷ [])
 -- the answer to opening
 Says (opening s paper) = openOn s ≡ paper
--- opening and adding lo..hi: the level, the cells, and the estimate: about m
-Says (adding s lo hi level xs m) = (added s lo hi .level ≡ level) × (cellsOf (added s lo hi) ≡ xs) × (estimateOf (added s lo hi) ≡ About (ofInt binary64 (pos m)))
--- the check words of a block that begins with these bytes
-Says (checked bytes plain weighted) = (plainOf (pad 508 bytes) ≡ plain) × (weightedOf (pad 508 bytes) ≡ weighted)
+-- opening and adding lo..hi, both answered: the level, the cells, and the estimate: about m
+Says (adding s lo hi level xs m) =
+    (openOn s ≡ answered [])
+    × (addOn (opened s) lo hi ≡ answered [])
+    × (added s lo hi .level ≡ level)
+    × (cellsOf (added s lo hi) ≡ xs)
+    × (estimateOn (added s lo hi) ≡ answered (about (ofInt binary64 (pos m))))
+-- the two sums of what a block says, and the words that the sealed block holds at bytes 508 and 510
+Says (checked body plain weighted) =
+    (plainOf body ≡ plain) × (weightedOf body ≡ weighted) × (numberAt 2 508 (sealed body) ≡ plain) × (numberAt 2 510 (sealed body) ≡ weighted)
 
 abbrev pub table : List Row
 table =
@@ -81,35 +89,56 @@ table =
     -- 8
     adding (settings 10 101 1 100 1) 1 10 6 (1 ∷ []) 64 ∷
     -- 9
-    checked (1 ∷ 0 ∷ 1 ∷ 0 ∷ 1 ∷ 0 ∷ 0 ∷ 0 ∷ []) 3 759 ∷
+    checked (bodyOf 1 (1 ∷ [])) 3 759 ∷
     -- 10
     opening (settings 10 99 37 5 16) (refused 1 0) ∷
     opening (settings 10 201 37 5 16) (refused 1 0) ∷
     opening (settings 10 100 3 5 16) (answered []) ∷
-    opening (settings 10 100 50 5 16) (refused 1 0) ∷ []
+    opening (settings 10 100 50 5 16) (refused 1 0) ∷
+    -- The rows from here on are ours: docs/RULES.md doesn't have them.
+    -- n one above its last, with a p from 10n to 20n
+    opening (settings 200000001 3000000019 37 5 16) (refused 1 0) ∷
+    -- p 20n
+    opening (settings 10 200 3 5 16) (answered []) ∷
+    -- b at its last, and p
+    opening (settings 10 101 37 100 16) (answered []) ∷
+    opening (settings 10 101 37 101 16) (refused 1 0) ∷
+    -- the capacity at its last, and one above
+    opening (settings 10 101 37 5 504) (answered []) ∷
+    opening (settings 10 101 37 5 505) (refused 1 0) ∷
+    -- a block of zeros but its last word, word 254, which is 1
+    checked (replicate 506 0 ++ bytesOf 2 1) 1 1 ∷ []
 
--- the test of a row, computed
-abbrev pub sameList : List ℕ → List ℕ → Bool
-sameList [] [] = true
-sameList [] (y ∷ ys) = false
-sameList (x ∷ xs) [] = false
-sameList (x ∷ xs) (y ∷ ys) = eqb x y && sameList xs ys
-
+-- the tests of a row, computed
 abbrev pub samePaper : Paper → Paper → Bool
-samePaper (answered xs) (answered ys) = sameList xs ys
+samePaper (answered xs) (answered ys) = same xs ys
 samePaper (answered xs) (refused n b) = false
 samePaper (refused n b) (answered ys) = false
 samePaper (refused n b) (refused m c) = eqb n m && eqb b c
 
+abbrev pub tests : Row → List Bool
+tests (hashes s hs) = same (each (hash s) (range 1 (s .n))) hs ∷ []
+tests (regions s rs t) = same (each (region s) (range 0 (top s))) rs ∷ eqb (top s) t ∷ []
+tests (passed s level xs) = same (filter (passes s level) (range 1 (s .n))) xs ∷ []
+tests (counted s level lo hi v) = samePaper (countOn s level lo hi) (answered (v ∷ [])) ∷ []
+tests (opening s paper) = samePaper (openOn s) paper ∷ []
+tests (adding s lo hi level xs m) =
+    samePaper (openOn s) (answered []) ∷
+    samePaper (addOn (opened s) lo hi) (answered []) ∷
+    eqb (added s lo hi .level) level ∷
+    same (cellsOf (added s lo hi)) xs ∷
+    -- the estimate
+    isSketch (added s lo hi) ∷
+    not (eqb (added s lo hi .level) 0) ∷
+    eqb (standsFor (added s lo hi)) m ∷ []
+tests (checked body plain weighted) =
+    eqb (plainOf body) plain ∷
+    eqb (weightedOf body) weighted ∷
+    eqb (numberAt 2 508 (sealed body)) plain ∷
+    eqb (numberAt 2 510 (sealed body)) weighted ∷ []
+
 unfoldable pub holds : Row → Bool
-holds (hashes s hs) = sameList (each (hash s) (range 1 (s .n))) hs
-holds (regions s rs t) = sameList (each (region s) (range 0 (top s))) rs && eqb (top s) t
-holds (passed s level xs) = sameList (filter (passes s level) (range 1 (s .n))) xs
-holds (counted s level lo hi v) = samePaper (countOn s level lo hi) (answered (v ∷ []))
-holds (opening s paper) = samePaper (openOn s) paper
-holds (adding s lo hi level xs m) =
-    eqb (added s lo hi .level) level && (sameList (cellsOf (added s lo hi)) xs && (isSketch (added s lo hi) && (not (eqb (added s lo hi .level) 0) && eqb (standsFor (added s lo hi)) m)))
-holds (checked bytes plain weighted) = eqb (plainOf (pad 508 bytes)) plain && eqb (weightedOf (pad 508 bytes)) weighted
+holds r = all (tests r)
 
 -- every row of a table
 abbrev pub allHold : List Row → Bool

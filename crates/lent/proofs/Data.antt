@@ -1,4 +1,4 @@
--- The types of plain data that the walk by hand of `next` meets (`Walk.antt`'s `Plain`), a line for each.
+-- The types of plain data that the walks by hand meet (`Walk.antt`'s `Plain`), a line for each.
 --     walker, stepped, found, word32
 -- Assumes nothing.
 use Rattle.lent.proofs.Walk.{Plain, of-struct, of-enum, of-uint}

@@ -1,6 +1,7 @@
 -- The laws of the lent walker.
 --     moved-at        a step changes nothing but the position: the old walker with the new position is the walker after the step
 --     lends-step      so what a step by value answers, and the old walker with its position, are what `next` promises
+--     handed-back     what a call on a lent walker answers, with the walker as it is left, is what a step by value promises
 --     lends-hit, lends-none, lends-refused    after a hit the position is the hit plus one and nothing else differs; none and a refusal change nothing
 --     next-tight      two outcomes that the promise of `next` allows coincide: the answer, and the walker as it is left
 --     lent-walk       what k calls on one walker yield is what k steps do
@@ -11,9 +12,9 @@ use mathlib.Core.Bool.{true}
 use mathlib.Core.List.{List, [], _∷_, _++_}
 use Prim.Native.Nat.{ℕ, zero, suc, _+_, _<_, _≤_}
 use native.Mathlib.Omega.{arith}
+use Rattle.lists.specs.Lists.{filter, range}
 use Rattle.rule.specs.declared.answers.Found.{Found}
 use Rattle.rule.specs.declared.answers.Found.the-variants as found
-use Rattle.rule.specs.Cells.{filter, range}
 use Rattle.rule.specs.Rule.{passes}
 use Rattle.rule.specs.Samples.{rangeCount}
 use Rattle.rule.specs.Refusals.{Paper, answered, refused, ofFound}
@@ -25,27 +26,30 @@ use Rattle.find.proofs.Walks.{walk-all}
 use Rattle.lent.specs.Lending.{Lends}
 
 -- the walker at another position
-abbrev pub placed : Walker → ℕ → Walker
-placed w at = walkerAt (w .settings) (w .level) at (w .hi)
+abbrev pub standing : Walker → ℕ → Walker
+standing w at = walkerAt (w .settings) (w .level) at (w .hi)
 
-pub moved-at : (w : Walker) → placed w (afterStep w .at) ≡ afterStep w
+pub moved-at : (w : Walker) → standing w (afterStep w .at) ≡ afterStep w
 unfolding afterStep
 moved-at w = by (stepOn w)
   where
-    by : (a : Paper) → placed w (moved a w .at) ≡ moved a w
+    by : (a : Paper) → standing w (moved a w .at) ≡ moved a w
     by (answered []) = refl
     by (answered (x ∷ xs)) = refl
-    by (refused number block) = refl
+    by (refused number place) = refl
 
-pub lends-step : (w : Walker) (m : Stepped) → Steps w m → Lends w (m .found) (placed w (m .walker .at))
-lends-step w m e = record { answer = e .answer; walker = ap (λ (v : Walker). placed w (v .at)) (e .walker) ∙ moved-at w }
+pub lends-step : (w : Walker) (m : Stepped) → Steps w m → Lends w (m .found) (standing w (m .walker .at))
+lends-step w m e = record { answer = e .answer; walker = ap (λ (v : Walker). standing w (v .at)) (e .walker) ∙ moved-at w }
+
+pub handed-back : (w v : Walker) (r : Found) → Lends w r v → Steps w (record { found = r; walker = v })
+handed-back w v r e = record { answer = e .answer; walker = e .walker }
 
 -- the walker as it is left, by the answer
 left-by : (w : Walker) (r : Found) (v : Walker) → Lends w r v → v ≡ moved (ofFound r) w
 unfolding afterStep
 left-by w r v e = e .walker ∙ ap (λ (a : Paper). moved a w) (sym (e .answer))
 
-pub lends-hit : (w v : Walker) (x : ℕ) → Lends w (found.Cell x) v → v ≡ placed w (x + 1)
+pub lends-hit : (w v : Walker) (x : ℕ) → Lends w (found.Cell x) v → v ≡ standing w (x + 1)
 lends-hit w v x e = left-by w (found.Cell x) v e
 
 pub lends-none : (w v : Walker) → Lends w found.Nothing v → v ≡ w

@@ -1,7 +1,6 @@
 -- The texts of the answers, and lines made of numbers.
 --     kept-line, exact-line, about-line, count-line, cell-line, none-line, refusal-line    each text is one line of at most 40 bytes
 --     line-bytes      each byte of such a text is below 128
---     stored-same     what is stored is fixed: the contents and the place after it
 --     spaced-back     numbers written with a space before each are read back
 --     command-said    so is a letter with up to five numbers: each shape has its lines
 -- Assumes nothing.
@@ -16,7 +15,8 @@ use lib.ListN.{length, getD, length-append}
 use borrow.Author.Tests.{le-leb, leb-true, ne-eqb}
 use Rattle.line.specs.Lines.{Word, digit, digits, shape, commandOf}
 use Rattle.line.specs.Reading.{firstWord, afterWord, numbersAfter}
-use Rattle.line.specs.Texts.{decimalIn, decimal, textLine, headExact, headAbout, headCount, headCell, headRefusal, textKept, textExact, textAbout, textCount, textCell, textNone, textRefusal, Stored, visible, OneLine, spaced, Small}
+use Rattle.line.specs.Texts.{decimalIn, decimal, bytes, textLine, textKept, textExact, textAbout, textCount, textCell, textNone, textRefusal}
+use Rattle.line.specs.Texts.{visible, OneLine, spaced, Small}
 use Rattle.line.proofs.Words.{words-first}
 use Rattle.line.proofs.Decimals.{decimal-digits, decimal-length, decimal-ten, number-text}
 use Rattle.line.proofs.Shapes.{line-shape}
@@ -53,28 +53,28 @@ text-line head v s h =
 
 pub kept-line : (level cells : ℕ) → level < 2 ^ 32 → OneLine (textKept level cells)
 kept-line level cells h =
-    let l : OneLine (textLine (75 ∷ 32 ∷ [] ++ (decimal level ++ (32 ∷ []))) cells) =
-    text-line (75 ∷ 32 ∷ [] ++ (decimal level ++ (32 ∷ []))) cells (visible-append (decimal level) (32 ∷ []) (decimal-seen level) refl)
-    (omega (arith, length-append (decimal level) (32 ∷ []), decimal-ten level h)) in
-    rw (append-assoc (decimal level) (32 ∷ []) (decimal cells ++ (10 ∷ []))) at l
+    let l : OneLine (textLine (bytes "K " ++ (decimal level ++ bytes " ")) cells) =
+    text-line (bytes "K " ++ (decimal level ++ bytes " ")) cells (visible-append (decimal level) (bytes " ") (decimal-seen level) refl)
+    (omega (arith, length-append (decimal level) (bytes " "), decimal-ten level h)) in
+    rw (append-assoc (decimal level) (bytes " ") (decimal cells ++ bytes "\n")) at l
 
 pub exact-line : (v : ℕ) → OneLine (textExact v)
-exact-line v = text-line headExact v refl (omega arith)
+exact-line v = text-line (bytes "E exact ") v refl (omega arith)
 
 pub about-line : (v : ℕ) → OneLine (textAbout v)
-about-line v = text-line headAbout v refl (omega arith)
+about-line v = text-line (bytes "E about ") v refl (omega arith)
 
 pub count-line : (v : ℕ) → OneLine (textCount v)
-count-line v = text-line headCount v refl (omega arith)
+count-line v = text-line (bytes "C ") v refl (omega arith)
 
 pub cell-line : (cell : ℕ) → OneLine (textCell cell)
-cell-line cell = text-line headCell cell refl (omega arith)
+cell-line cell = text-line (bytes "N ") cell refl (omega arith)
 
 pub none-line : OneLine textNone
-none-line = record { body = 78 ∷ 32 ∷ 110 ∷ 111 ∷ 110 ∷ 101 ∷ []; ended = refl; seen = refl; short = omega arith }
+none-line = record { body = bytes "N none"; ended = refl; seen = refl; short = omega arith }
 
 pub refusal-line : (v : ℕ) → OneLine (textRefusal v)
-refusal-line v = text-line headRefusal v refl (omega arith)
+refusal-line v = text-line (bytes "R ") v refl (omega arith)
 
 pub line-bytes : (text : List ℕ) → OneLine text → (k : ℕ) → getD text k 0 < 128
 line-bytes text l k = rw (l .ended) (low (l .body) (l .seen) k)
@@ -82,11 +82,10 @@ line-bytes text l k = rw (l .ended) (low (l .body) (l .seen) k)
     low : (body : List ℕ) → visible body ≡ true → (k : ℕ) → getD (body ++ (10 ∷ [])) k 0 < 128
     low [] e zero = omega arith
     low [] e (suc k) = omega arith
-    low (x ∷ body) e zero = let h = and-eq-true-iff (leb 32 x && leb x 126) (visible body) .0 e in omega (arith, leb-true x 126 (and-eq-true-iff (leb 32 x) (leb x 126) .0 (h .0) .1))
+    low (x ∷ body) e zero =
+        let h = and-eq-true-iff (leb 32 x && leb x 126) (visible body) .0 e in
+        omega (arith, leb-true x 126 (and-eq-true-iff (leb 32 x) (leb x 126) .0 (h .0) .1))
     low (x ∷ body) e (suc k) = low body (and-eq-true-iff (leb 32 x && leb x 126) (visible body) .0 e .1) k
-
-pub stored-same : {row : List ℕ} {at : ℕ} {text out out′ : List ℕ} {next next′ : ℕ} → Stored row at text out next → Stored row at text out′ next′ → (out ≡ out′) × (next ≡ next′)
-stored-same a b = (a .contents ∙ sym (b .contents), a .after ∙ sym (b .after))
 
 -- a word of digits ends where spaced numbers begin
 word-ends : (w : Word) (xs : List ℕ) → digits w ≡ true → (firstWord (w ++ spaced xs) ≡ w) × (afterWord (w ++ spaced xs) ≡ spaced xs)

@@ -17,8 +17,8 @@ use native.Mathlib.Nat.{div-add-mod', mod-lt, mod-eq-of-lt, div-lt-iff-lt-mul, p
 use lib.Dec.{leb, ltb}
 use lib.ListN.{length}
 use borrow.Author.Tests.{le-leb, ltb-true, ltb-false, lt-ltb, le-ltb, ne-eqb}
-use Rattle.rule.proofs.Lists.{tested}
-use Rattle.rule.proofs.Steps.{length-more}
+use Rattle.lists.proofs.Tests.{tested}
+use Rattle.lists.proofs.Steps.{length-more}
 use Rattle.line.specs.Lines.{Word, digit, digits, noLeadingZero, value, number}
 use Rattle.line.specs.Texts.{decimalIn, decimal}
 use Rattle.line.proofs.Words.{digits-append, onward-append, leading}
@@ -91,7 +91,9 @@ decimal-length x = (decimal-some 19 x, fuel 20 x)
   where
     fuel : (k x : ℕ) → length (decimalIn k x) ≤ k
     fuel zero x = omega arith
-    fuel (suc k) x = cases (λ (l : List ℕ). length l ≤ suc k) k x (λ s. omega arith) (λ s. omega (arith, length-more (decimalIn k (x / 10)) (48 + x % 10), fuel k (x / 10)))
+    fuel (suc k) x =
+        cases (λ (l : List ℕ). length l ≤ suc k) k x (λ s. omega arith)
+        (λ s. omega (arith, length-more (decimalIn k (x / 10)) (48 + x % 10), fuel k (x / 10)))
 
 pub decimal-ten : (x : ℕ) → x < 2 ^ 32 → length (decimal x) ≤ 10
 unfolding decimal
@@ -106,7 +108,8 @@ last-all : (k x : ℕ) → decimalIn k x ≡ lastDigits (length (decimalIn k x))
 last-all zero x = refl
 last-all (suc k) x =
     cases (λ (l : List ℕ). l ≡ lastDigits (length l) x) k x (λ s. rw (mod-eq-of-lt {n = x} {m = 10} s)) (λ s.
-    let n : length (decimalIn k (x / 10) ++ ((48 + x % 10) ∷ [])) ≡ suc (length (decimalIn k (x / 10))) = omega (arith, length-more (decimalIn k (x / 10)) (48 + x % 10)) in
+    let n : length (decimalIn k (x / 10) ++ ((48 + x % 10) ∷ [])) ≡ suc (length (decimalIn k (x / 10))) =
+    omega (arith, length-more (decimalIn k (x / 10)) (48 + x % 10)) in
     rw n (ap (λ (l : List ℕ). l ++ ((48 + x % 10) ∷ [])) (last-all k (x / 10))))
 
 pub decimal-last : (x : ℕ) → decimal x ≡ lastDigits (length (decimal x)) x
@@ -133,7 +136,8 @@ left-step {x} {n} {y} l h = go (l .k) (l .room) (l .below) (l .whole)
     go : (k : ℕ) → k + n ≡ 20 → y < 10 ^ suc k → n + length (decimalIn (suc k) y) ≡ suc (length (decimal x)) → Left x (n + 1) (y / 10)
     go zero r b w = absurd (omega arith)
     go (suc k) r b w =
-        let e : length (decimalIn (suc (suc k)) y) ≡ suc (length (decimalIn (suc k) (y / 10))) = rw (le-ltb y 10 h) (omega (arith, length-more (decimalIn (suc k) (y / 10)) (48 + y % 10))) in
+        let e : length (decimalIn (suc (suc k)) y) ≡ suc (length (decimalIn (suc k) (y / 10))) =
+        rw (le-ltb y 10 h) (omega (arith, length-more (decimalIn (suc k) (y / 10)) (48 + y % 10))) in
         record { k = k; room = omega arith; below = left-below (suc k) y b; whole = omega arith }
 
 pub left-one : {x n y : ℕ} → Left x n y → y < 10 → n ≡ length (decimal x)

@@ -18,14 +18,14 @@ use lib.Dec.{leb, eqb}
 use lib.ListN.{length, drop, getD, set, replicate, length-append, length-drop, length-replicate, drop-of-length-le}
 use lib.Seq.{drop-drop}
 use borrow.Author.Tests.{le-leb, lt-leb, eqb-true, eq-eqb, ne-eqb}
-use Rattle.rule.specs.Rows.{pad}
-use Rattle.rule.proofs.Lists.{tested}
-use Rattle.rule.proofs.Places.{placed-one, placed-after}
-use Rattle.rule.proofs.Steps.{next, length-more}
+use Rattle.lists.specs.Rows.{pad}
+use Rattle.lists.proofs.Tests.{tested}
+use Rattle.lists.proofs.Places.{placed-one, placed-after}
+use Rattle.lists.proofs.Steps.{next, length-more}
 use Rattle.line.specs.declared.commands.Command.the-variants.{Unknown}
 use Rattle.line.specs.declared.commands.Number.the-variants.{Value, Bad}
 use Rattle.line.specs.Lines.{Word, into, words, value, isNumber, number, both, shape, spoken, commandOf}
-use Rattle.line.specs.Reading.{firstWord, afterWord, wordAt, numbersAfter, noRow, rowOf, shaped}
+use Rattle.line.specs.Reading.{firstWord, afterWord, wordAt, numbersAfter, noRow, rowOf, asked}
 use Rattle.line.proofs.Words.{split, words-first}
 
 -- numbers before those of the rest
@@ -91,7 +91,9 @@ prepend-both xs x (some ys) = ap some (sym (append-assoc xs (x ∷ []) ys))
 too-many : (xs : List ℕ) → 5 ≤ length xs → (o : Option ℕ) (p : Option (List ℕ)) → rowOf (prepend xs (both o p)) ≡ noRow
 too-many xs h none p = refl
 too-many xs h (some x) none = refl
-too-many xs h (some x) (some ys) = let e : leb (length (xs ++ (x ∷ ys))) 5 ≡ false = lt-leb (length (xs ++ (x ∷ ys))) 5 (omega (arith, length-append xs (x ∷ ys))) in rw e
+too-many xs h (some x) (some ys) =
+    let e : leb (length (xs ++ (x ∷ ys))) 5 ≡ false = lt-leb (length (xs ++ (x ∷ ys))) 5 (omega (arith, length-append xs (x ∷ ys))) in
+    rw e
 
 module _ {line : List ℕ} {at : ℕ} {values : List ℕ} {count i : ℕ} (g : Gathered line at values count i) where
   pub gathered-end : length line ≤ i → record { count = count; values = values } ≡ rowOf (numbersAfter (drop at line))
@@ -109,16 +111,20 @@ module _ {line : List ℕ} {at : ℕ} {values : List ℕ} {count i : ℕ} (g : G
       spaced = rw (next line i h, eq-eqb _ _ space) (words-first (drop (i + 1) line))
 
       pub row-full : count ≡ 5 → noRow ≡ rowOf (numbersAfter (drop at line))
-      row-full five = rw (← g .whole, spaced) (sym (too-many (g .xs) (omega (arith, g .counted)) (number (firstWord (drop (i + 1) line))) (numbersAfter (afterWord (drop (i + 1) line)))))
+      row-full five =
+          rw (← g .whole, spaced)
+          (sym (too-many (g .xs) (omega (arith, g .counted)) (number (firstWord (drop (i + 1) line))) (numbersAfter (afterWord (drop (i + 1) line)))))
 
       pub row-bad : wordAt (i + 1) (firstWord (drop (i + 1) line)) ≡ Bad → noRow ≡ rowOf (numbersAfter (drop at line))
       row-bad e = rw (← g .whole, spaced, word-bad (i + 1) (firstWord (drop (i + 1) line)) e)
 
-      pub gathered-more : (count ≡ 5 → ⊥) → (x k : ℕ) → wordAt (i + 1) (firstWord (drop (i + 1) line)) ≡ Value x k → (i < k) × Gathered line at (set values count x) (count + 1) k
+      pub gathered-more : (count ≡ 5 → ⊥) → (x k : ℕ) → wordAt (i + 1) (firstWord (drop (i + 1) line)) ≡ Value x k
+          → (i < k) × Gathered line at (set values count x) (count + 1) k
       gathered-more few x k e =
           let w : Word = firstWord (drop (i + 1) line) in
           let v : (number w ≡ some x) × (k ≡ i + 1 + length w) = word-value (i + 1) w x k e in
-          let q : afterWord (drop (i + 1) line) ≡ drop k line = after-drop (drop (i + 1) line) ∙ drop-drop (length w) (i + 1) line ∙ ap (λ (j : ℕ). drop j line) (sym (v .1)) in
+          let q : afterWord (drop (i + 1) line) ≡ drop k line =
+          after-drop (drop (i + 1) line) ∙ drop-drop (length w) (i + 1) line ∙ ap (λ (j : ℕ). drop j line) (sym (v .1)) in
           let five : count ≤ 5 = omega (arith, g .counted, g .short) in
           let low : count < 5 = omega (arith, few) in (
             omega arith,
@@ -133,8 +139,8 @@ module _ {line : List ℕ} {at : ℕ} {values : List ℕ} {count i : ℕ} (g : G
           )
 
 -- the shape of a row is that of its numbers
-row-shape : (letter : ℕ) (o : Option (List ℕ)) → shaped letter (rowOf o) ≡ shape letter o
-unfolding shaped
+row-shape : (letter : ℕ) (o : Option (List ℕ)) → asked letter (rowOf o) ≡ shape letter o
+unfolding asked
 row-shape letter none = refl
 row-shape letter (some []) = refl
 row-shape letter (some (x ∷ [])) = refl
@@ -169,7 +175,7 @@ line-shape x xs =
     letter [] = refl
     letter (y ∷ ys) = ⊎-elim (λ (e : eqb y 32 ≡ true). rw e) (λ (e : eqb y 32 ≡ false). rw (e, split ys)) (tested (eqb y 32))
 
-pub command-row : (line : List ℕ) → 0 < length line → length line ≤ 64 → shaped (getD line 0 0) (rowOf (numbersAfter (drop 1 line))) ≡ commandOf line
+pub command-row : (line : List ℕ) → 0 < length line → length line ≤ 64 → asked (getD line 0 0) (rowOf (numbersAfter (drop 1 line))) ≡ commandOf line
 unfolding commandOf
 command-row [] h l = absurd (omega arith)
 command-row (x ∷ xs) h l = row-shape x (numbersAfter xs) ∙ sym (line-shape x xs) ∙ (rw (le-leb _ _ l))

@@ -15,9 +15,8 @@ use native.Mathlib.Omega.{arith}
 use lib.Dec.{leb, ltb, eqb}
 use lib.ListN.{length, drop, getD, length-append, drop-of-length-le}
 use borrow.Author.Tests.{le-leb, lt-leb, leb-true, ltb-true, ltb-false, lt-ltb, le-ltb, eqb-true, eqb-false, eq-eqb, ne-eqb, not-true}
-use Rattle.rule.proofs.Lists.{tested}
-use Rattle.rule.proofs.Facts.{same-test}
-use Rattle.rule.proofs.Steps.{next}
+use Rattle.lists.proofs.Tests.{tested, same-test}
+use Rattle.lists.proofs.Steps.{next}
 use Rattle.line.specs.declared.commands.Number.{Number}
 use Rattle.line.specs.declared.commands.Number.the-variants.{Bad}
 use Rattle.line.specs.Lines.{Word, words, digit, digits, noLeadingZero, onward, value, isNumber, number, both, numbers}
@@ -62,7 +61,8 @@ zero-digit d e =
     (λ t. let q : 0 * 10 + (d - 48) ≡ 0 = omega (arith, eqb-true d 48 t) in eq-eqb _ _ q)
     (λ t. let q : d ≡ 48 = omega (arith, eqb-true (0 * 10 + (d - 48)) 0 t) in eq-eqb _ _ q)
 
-pub leading : (d : ℕ) (ds : Word) (x : ℕ) (w : Word) → digits (d ∷ ds) ≡ true → noLeadingZero (d ∷ ds) ≡ true → noLeadingZero (d ∷ ds ++ (x ∷ w)) ≡ not (eqb (value (d ∷ ds)) 0)
+pub leading : (d : ℕ) (ds : Word) (x : ℕ) (w : Word) → digits (d ∷ ds) ≡ true → noLeadingZero (d ∷ ds) ≡ true
+    → noLeadingZero (d ∷ ds ++ (x ∷ w)) ≡ not (eqb (value (d ∷ ds)) 0)
 leading d [] x w a b = ap not (zero-digit d (and-eq-true-iff (digit d) true .0 a .0))
 leading d (e ∷ ds) x w a b =
     let t : digit d ≡ true = and-eq-true-iff (digit d) (digits (e ∷ ds)) .0 a .0 in
@@ -156,7 +156,8 @@ reads-from (x ∷ xs) at ds b =
     (λ (z : (ltb at (at + length ds) && eqb (value ds) 0) ≡ true). rw (t, u, z) (refused at (ds ++ (x ∷ firstWord xs)) (after-zero at ds x (firstWord xs) b z)))
     (λ (z : (ltb at (at + length ds) && eqb (value ds) 0) ≡ false).
     ⊎-elim
-    (λ (l : ltb 4294967295 (grown (value ds) x) ≡ true). rw (t, u, z, l) (refused at (ds ++ (x ∷ firstWord xs)) (too-large at ds x b (firstWord xs) (ltb-true _ _ l))))
+    (λ (l : ltb 4294967295 (grown (value ds) x) ≡ true).
+    rw (t, u, z, l) (refused at (ds ++ (x ∷ firstWord xs)) (too-large at ds x b (firstWord xs) (ltb-true _ _ l))))
     (λ (l : ltb 4294967295 (grown (value ds) x) ≡ false).
     let i : at + length ds + 1 ≡ at + length (ds ++ (x ∷ [])) = omega (arith, length-append ds (x ∷ [])) in
     let ih : reads at (at + length (ds ++ (x ∷ []))) (value (ds ++ (x ∷ []))) xs ≡ wordAt at ((ds ++ (x ∷ [])) ++ firstWord xs) =
@@ -194,4 +195,9 @@ module _ (at i v : ℕ) (line : List ℕ) where
         reads-on l = rw (next line i h, ne-eqb _ _ ne, t, le-ltb _ _ l)
 
 pub digit-low : (at i v x : ℕ) → stops at i v x ≡ false → 48 ≤ x
-digit-low at i v x e = ltb-false x 48 (⊎-elim (λ (t : ltb x 48 ≡ true). absurd (false≢true (sym e ∙ ap (λ (u : Bool). u || (ltb 57 x || (ltb at i && eqb v 0))) t))) (λ t. t) (tested (ltb x 48)))
+digit-low at i v x e =
+    ltb-false x 48
+    (⊎-elim
+    (λ (t : ltb x 48 ≡ true). absurd (false≢true (sym e ∙ ap (λ (u : Bool). u || (ltb 57 x || (ltb at i && eqb v 0))) t)))
+    (λ t. t)
+    (tested (ltb x 48)))

@@ -1,5 +1,6 @@
 -- A line of potcount's input, without its newline, and what it asks for. Assumes nothing: these are definitions.
 use Prim.Native.Nat.{ℕ, _+_, _*_, _-_}
+use Prim.Native.Char.{code}
 use mathlib.Core.Bool.{Bool, true, not, cond, _&&_}
 use mathlib.Core.List.{List, [], _∷_}
 use mathlib.Core.Option.{Option, some, none}
@@ -17,33 +18,33 @@ abbrev pub into : ℕ → List Word → List Word
 into x [] = (x ∷ []) ∷ []
 into x (w ∷ ws) = (x ∷ w) ∷ ws
 
--- the words of a line: it is split at each space (32)
+-- the words of a line: it is split at each space
 abbrev pub words : List ℕ → List Word
 words [] = [] ∷ []
-words (x ∷ xs) = cond (eqb x 32) ([] ∷ words xs) (into x (words xs))
+words (x ∷ xs) = cond (eqb x (code " ")) ([] ∷ words xs) (into x (words xs))
 
 abbrev pub digit : ℕ → Bool
-digit x = leb 48 x && leb x 57
+digit x = leb (code "0") x && leb x (code "9")
 
 abbrev pub digits : Word → Bool
 digits [] = true
 digits (x ∷ xs) = digit x && digits xs
 
--- no 0 (48) before another digit
+-- no 0 before another digit
 abbrev pub noLeadingZero : Word → Bool
 noLeadingZero [] = true
 noLeadingZero (x ∷ []) = true
-noLeadingZero (x ∷ y ∷ w) = not (eqb x 48)
+noLeadingZero (x ∷ y ∷ w) = not (eqb x (code "0"))
 
 -- the value of v followed by decimal digits
 abbrev pub onward : ℕ → Word → ℕ
 onward v [] = v
-onward v (x ∷ xs) = onward (v * 10 + (x - 48)) xs
+onward v (x ∷ xs) = onward (v * 10 + (x - code "0")) xs
 
 abbrev pub value : Word → ℕ
 value = onward 0
 
--- a number: decimal digits, at least one, no leading zero, at most 4294967295
+-- a number: decimal digits, at least one, no leading zero, at most 4294967295 (RULES: Program)
 abbrev pub isNumber : Word → Bool
 isNumber w = ltb 0 (length w) && (digits w && (noLeadingZero w && leb (value w) 4294967295))
 
@@ -60,15 +61,15 @@ abbrev pub numbers : List Word → Option (List ℕ)
 numbers [] = some []
 numbers (w ∷ ws) = both (number w) (numbers ws)
 
--- the five shapes: S (83), A (65), E (69), C (67), N (78), each with so many numbers
+-- the five shapes: a letter, each with so many numbers
 abbrev pub shape : ℕ → Option (List ℕ) → Command
 shape letter none = Unknown
-shape letter (some []) = cond (eqb letter 69) Estimate Unknown
+shape letter (some []) = cond (eqb letter (code "E")) Estimate Unknown
 shape letter (some (x ∷ [])) = Unknown
-shape letter (some (x ∷ y ∷ [])) = cond (eqb letter 65) (Add x y) (cond (eqb letter 78) (Next x y) Unknown)
-shape letter (some (x ∷ y ∷ z ∷ [])) = cond (eqb letter 67) (Count x y z) Unknown
+shape letter (some (x ∷ y ∷ [])) = cond (eqb letter (code "A")) (Add x y) (cond (eqb letter (code "N")) (Next x y) Unknown)
+shape letter (some (x ∷ y ∷ z ∷ [])) = cond (eqb letter (code "C")) (Count x y z) Unknown
 shape letter (some (x ∷ y ∷ z ∷ u ∷ [])) = Unknown
-shape letter (some (n ∷ p ∷ a ∷ b ∷ capacity ∷ [])) = cond (eqb letter 83) (Settings n p a b capacity) Unknown
+shape letter (some (n ∷ p ∷ a ∷ b ∷ capacity ∷ [])) = cond (eqb letter (code "S")) (Settings n p a b capacity) Unknown
 shape letter (some (n ∷ p ∷ a ∷ b ∷ capacity ∷ x ∷ xs)) = Unknown
 
 -- the first word is one letter, and the others are numbers
@@ -78,6 +79,6 @@ spoken ([] ∷ ws) = Unknown
 spoken ((letter ∷ []) ∷ ws) = shape letter (numbers ws)
 spoken ((x ∷ y ∷ w) ∷ ws) = Unknown
 
--- what a line asks for: at most 64 bytes, of a known shape
+-- what a line asks for: at most 64 bytes, of a known shape (RULES: Program)
 unfoldable pub commandOf : List ℕ → Command
 commandOf line = cond (leb (length line) 64) (spoken (words line)) Unknown

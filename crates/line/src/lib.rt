@@ -2,14 +2,20 @@
 ghost use mathlib.Core.Path.{_≡_};
 ghost use Prim.Native.Nat.{_+_, _≤_, _<_};
 ghost use lib.ListN.{length, drop};
+ghost use Rattle.lists.specs.Rows.{Stored};
 ghost use Rattle.line.specs.Lines.{commandOf};
-ghost use Rattle.line.specs.Reading.{ended, wordAt, firstWord, numbersAfter, noRow, rowOf, shaped};
-ghost use Rattle.line.specs.Texts.{Stored, decimal, textLine, textKept, textExact, textAbout, textCount, textCell, textNone, textRefusal};
+ghost use Rattle.line.specs.Reading.{ended, wordAt, firstWord, numbersAfter, noRow, rowOf, asked};
+ghost use Rattle.line.specs.Texts.{decimal, textLine, textKept, textExact, textAbout, textCount, textCell, textNone, textRefusal};
 use commands::Command;
 use commands::Number;
 use commands::Numbers;
 
 pub mod commands;
+
+// The largest number of a line, and the bytes of the longest line.
+const LARGEST: u64 = 4294967295;
+
+const LONGEST: usize = 64;
 
 fn wide(x: u8) -> u64
     ensures { λ r. ⌜ (r ≡ x) × (x < 256) ⌝ }
@@ -48,7 +54,7 @@ fn number_at(line: &[u8], at: usize) -> Number
             return Number::Bad;
         }
         v = v * 10 + (wide(x) - 48);
-        if 4294967295 < v {
+        if LARGEST < v {
             return Number::Bad;
         }
         i = i + 1;
@@ -94,7 +100,7 @@ fn read_numbers(line: &[u8], at: usize) -> Numbers
 
 // A letter with its numbers, of one of the five shapes.
 fn shape(letter: u8, m: Numbers) -> Command
-    ensures { λ r. ⌜ r ≡ shaped letter m ⌝ }
+    ensures { λ r. ⌜ r ≡ asked letter m ⌝ }
 {
     let count = m.count;
     let v = m.values;
@@ -136,7 +142,7 @@ pub fn command(line: &[u8]) -> Command
     if line.len() == 0 {
         return Command::Unknown;
     }
-    if 64 < line.len() {
+    if LONGEST < line.len() {
         return Command::Unknown;
     }
     let letter = line[0];
@@ -159,7 +165,7 @@ fn width(x: u64) -> usize
 // The decimal digits, stored from the last to the first.
 pub fn put_number(out: &mut [u8], at: usize, x: u64) -> usize
     requires { ⌜ at + 20 ≤ length (now out) ⌝ }
-    ensures { λ r. ⌜ Stored (now (out .entry)) at (decimal x) (now (out .exit)) r ⌝ }
+    ensures { λ r. ⌜ Stored (now (out .entry)) at (decimal x) r (now (out .exit)) ⌝ }
 {
     let end = at + width(x);
     let mut i = end;
@@ -175,7 +181,7 @@ pub fn put_number(out: &mut [u8], at: usize, x: u64) -> usize
 // Some bytes.
 fn put_bytes(out: &mut [u8], at: usize, bytes: &[u8]) -> usize
     requires { ⌜ at + length (now bytes) ≤ length (now out) ⌝ }
-    ensures { λ r. ⌜ Stored (now (out .entry)) at (now (bytes .entry)) (now (out .exit)) r ⌝ }
+    ensures { λ r. ⌜ Stored (now (out .entry)) at (now (bytes .entry)) r (now (out .exit)) ⌝ }
 {
     let mut i = 0;
     while i < bytes.len() {
@@ -188,7 +194,7 @@ fn put_bytes(out: &mut [u8], at: usize, bytes: &[u8]) -> usize
 // A number after a few bytes, on a line of its own.
 fn put_line(out: &mut [u8], at: usize, head: &[u8], v: u64) -> usize
     requires { ⌜ at + length (now head) + 21 ≤ length (now out) ⌝ }
-    ensures { λ r. ⌜ Stored (now (out .entry)) at (textLine (now (head .entry)) v) (now (out .exit)) r ⌝ }
+    ensures { λ r. ⌜ Stored (now (out .entry)) at (textLine (now (head .entry)) v) r (now (out .exit)) ⌝ }
 {
     let a = put_bytes(out, at, head);
     let b = put_number(out, a, v);
@@ -198,7 +204,7 @@ fn put_line(out: &mut [u8], at: usize, head: &[u8], v: u64) -> usize
 // `K level cells`
 pub fn put_kept(out: &mut [u8], at: usize, level: u32, cells: u32) -> usize
     requires { ⌜ at + 40 ≤ length (now out) ⌝ }
-    ensures { λ r. ⌜ Stored (now (out .entry)) at (textKept level cells) (now (out .exit)) r ⌝ }
+    ensures { λ r. ⌜ Stored (now (out .entry)) at (textKept level cells) r (now (out .exit)) ⌝ }
 {
     let a = put_bytes(out, at, b"K ");
     let b = put_number(out, a, level as u64);
@@ -208,7 +214,7 @@ pub fn put_kept(out: &mut [u8], at: usize, level: u32, cells: u32) -> usize
 // `E exact v`
 pub fn put_exact(out: &mut [u8], at: usize, v: u64) -> usize
     requires { ⌜ at + 40 ≤ length (now out) ⌝ }
-    ensures { λ r. ⌜ Stored (now (out .entry)) at (textExact v) (now (out .exit)) r ⌝ }
+    ensures { λ r. ⌜ Stored (now (out .entry)) at (textExact v) r (now (out .exit)) ⌝ }
 {
     put_line(out, at, b"E exact ", v)
 }
@@ -216,7 +222,7 @@ pub fn put_exact(out: &mut [u8], at: usize, v: u64) -> usize
 // `E about v`
 pub fn put_about(out: &mut [u8], at: usize, v: u64) -> usize
     requires { ⌜ at + 40 ≤ length (now out) ⌝ }
-    ensures { λ r. ⌜ Stored (now (out .entry)) at (textAbout v) (now (out .exit)) r ⌝ }
+    ensures { λ r. ⌜ Stored (now (out .entry)) at (textAbout v) r (now (out .exit)) ⌝ }
 {
     put_line(out, at, b"E about ", v)
 }
@@ -224,7 +230,7 @@ pub fn put_about(out: &mut [u8], at: usize, v: u64) -> usize
 // `C v`
 pub fn put_count(out: &mut [u8], at: usize, v: u32) -> usize
     requires { ⌜ at + 40 ≤ length (now out) ⌝ }
-    ensures { λ r. ⌜ Stored (now (out .entry)) at (textCount v) (now (out .exit)) r ⌝ }
+    ensures { λ r. ⌜ Stored (now (out .entry)) at (textCount v) r (now (out .exit)) ⌝ }
 {
     put_line(out, at, b"C ", v as u64)
 }
@@ -232,7 +238,7 @@ pub fn put_count(out: &mut [u8], at: usize, v: u32) -> usize
 // `N cell`
 pub fn put_cell(out: &mut [u8], at: usize, cell: u32) -> usize
     requires { ⌜ at + 40 ≤ length (now out) ⌝ }
-    ensures { λ r. ⌜ Stored (now (out .entry)) at (textCell cell) (now (out .exit)) r ⌝ }
+    ensures { λ r. ⌜ Stored (now (out .entry)) at (textCell cell) r (now (out .exit)) ⌝ }
 {
     put_line(out, at, b"N ", cell as u64)
 }
@@ -240,7 +246,7 @@ pub fn put_cell(out: &mut [u8], at: usize, cell: u32) -> usize
 // `N none`
 pub fn put_none(out: &mut [u8], at: usize) -> usize
     requires { ⌜ at + 40 ≤ length (now out) ⌝ }
-    ensures { λ r. ⌜ Stored (now (out .entry)) at textNone (now (out .exit)) r ⌝ }
+    ensures { λ r. ⌜ Stored (now (out .entry)) at textNone r (now (out .exit)) ⌝ }
 {
     put_bytes(out, at, b"N none\n")
 }
@@ -248,7 +254,7 @@ pub fn put_none(out: &mut [u8], at: usize) -> usize
 // `R number`
 pub fn put_refusal(out: &mut [u8], at: usize, number: u32) -> usize
     requires { ⌜ at + 40 ≤ length (now out) ⌝ }
-    ensures { λ r. ⌜ Stored (now (out .entry)) at (textRefusal number) (now (out .exit)) r ⌝ }
+    ensures { λ r. ⌜ Stored (now (out .entry)) at (textRefusal number) r (now (out .exit)) ⌝ }
 {
     put_line(out, at, b"R ", number as u64)
 }

@@ -1,4 +1,5 @@
--- The laws by which the functions' proofs go: the first elements of the rounds, as they are or mirrored, and what the search's answer says of the hits. Assumes nothing.
+-- The laws by which the functions' proofs go: the first elements of the rounds, as they are or mirrored, and what the search's answer says of the hits.
+-- Assumes nothing.
 use mathlib.Core.Path.{_≡_, ap, sym, subst, _∙_}
 use Prim.Native.Nat.{ℕ, zero, suc, _+_, _-_, _*_, _/_, _%_, _<_, _≤_}
 use native.Mathlib.Nat.{lt-of-not-le, mul-le-mul-right, mul-le-mul-left, mod-lt, mod-le, mod-eq-of-lt, mul-add-mod-self-right, div-add-mod'}
@@ -37,7 +38,8 @@ none-answer p a u l w b none =
     record { hit = λ h. absurd (omega arith); near = λ h. absurd (omega arith); least = λ i k h z. absurd (none i k h z) }
 
 -- an answer in one number
-pub packed-answer : (p a u l w b h index round : ℕ) → (h / 4294967296 ≡ index) × (h % 4294967296 ≡ round) → Least p a u l w b index round → Least p a u l w b (h / 4294967296) (h % 4294967296)
+pub packed-answer : (p a u l w b h index round : ℕ) → (h / 4294967296 ≡ index) × (h % 4294967296 ≡ round) → Least p a u l w b index round
+    → Least p a u l w b (h / 4294967296) (h % 4294967296)
 packed-answer p a u l w b h index round e x =
     subst (Least p a u l w b (h / 4294967296)) (sym (e .1)) (subst (λ (y : ℕ). Least p a u l w b y round) (sym (e .0)) x)
 
@@ -126,7 +128,8 @@ module _ (p a u l w : ℕ) (t : Searched p a u l w) (pos : 0 < a) where
     lower-up : (d i : ℕ) → HitIn p a u l (d + 1) i → HitIn a (a - p % a) (foot p a u) l (first p a u + d * (p / a + 1) - i) d
     lower-up d i z =
         let s = first p a u + d * (p / a + 1) in
-        let h : i ≤ s = by-contra i s (λ y. omega (arith, mul-le-mul-right {m = suc s} {n = i} a y, rounds d, mul-le-mul-left {m = p % a} {n = a} d (omega (arith, rest)), z .high, foot-sum)) in
+        let h : i ≤ s = by-contra i s (λ y. omega
+        (arith, mul-le-mul-right {m = suc s} {n = i} a y, rounds d, mul-le-mul-left {m = p % a} {n = a} d (omega (arith, rest)), z .high, foot-sum)) in
         let g = same-up d i (s - i) (omega arith) in
         record { low = omega (arith, z .low); high = omega (arith, z .high) }
 
@@ -152,7 +155,19 @@ module _ (p a u l w : ℕ) (t : Searched p a u l w) (pos : 0 < a) where
           record {
             hit = λ h. z;
             near = λ h. lt-of-not-le (λ y. omega (arith, mul-le-mul-right {m = p} {n = i} a y, mul-le-mul-right {m = suc d} {n = a} p da, z .high));
-            least = λ j k h y. (omega arith, by-contra i j (λ x. omega (arith, mul-le-mul-right {m = suc j} {n = i} a x, mul-le-mul-right {m = suc d} {n = k} p (outer j k h y .1), y .low, z .high, foot-sum)));
+            least = λ j k h y. (
+              omega arith,
+              by-contra i j
+                  (λ x. omega (
+                    arith,
+                    mul-le-mul-right {m = suc j} {n = i} a x,
+                    mul-le-mul-right {m = suc d} {n = k} p
+                        (outer j k h y .1),
+                    y .low,
+                    z .high,
+                    foot-sum,
+                  )),
+            );
           }
 
     module _ (b d m : ℕ) (x : Least a (a - p % a) (foot p a u) l (w * (p / a)) (b - first p a u * w) d m) where
@@ -163,8 +178,12 @@ module _ (p a u l w : ℕ) (t : Searched p a u l w) (pos : 0 < a) where
       up-none = raise-none b d m up-inner
 
       pub up-few : 0 < m → (m ≤ d) × (d < a) × (d * (p / a + 1) ≤ 2 * p)
-      up-few h =
-          (few-rounds a (a - p % a) (foot p a u) m d (foot-sum .1) (omega arith) (x .hit h .low), x .near h, omega (arith, mul-le-mul-right {m = d} {n = a} (p / a + 1) (omega (arith, x .near h)), rest))
+      up-few h = (
+        few-rounds a (a - p % a) (foot p a u) m d (foot-sum .1) (omega arith) (x .hit h .low),
+        x .near h,
+        omega
+            (arith, mul-le-mul-right {m = d} {n = a} (p / a + 1) (omega (arith, x .near h)), rest),
+      )
 
       pub up-hit : 0 < m → Least p a u l w b (first p a u + d * (p / a + 1) - m) (d + 1)
       up-hit h =
@@ -180,8 +199,12 @@ module _ (p a u l w : ℕ) (t : Searched p a u l w) (pos : 0 < a) where
       mirrored-none = raise-none b d m mirrored-inner
 
       pub mirrored-few : 0 < m → (m ≤ d) × (d < a) × (d * (p / a) ≤ p)
-      mirrored-few h =
-          (few-rounds a (p % a) (a - foot p a u + l - 1) m d (omega (arith, foot-sum)) (omega (arith, rest)) (x .hit h .low), x .near h, omega (arith, mul-le-mul-right {m = d} {n = a} (p / a) (omega (arith, x .near h)), rest))
+      mirrored-few h = (
+        few-rounds a (p % a) (a - foot p a u + l - 1) m d (omega (arith, foot-sum)) (omega (arith, rest)) (x .hit h .low),
+        x .near h,
+        omega
+            (arith, mul-le-mul-right {m = d} {n = a} (p / a) (omega (arith, x .near h)), rest),
+      )
 
       pub mirrored-hit : 0 < m → Least p a u l w b (first p a u + d * (p / a) + m - 1) (d + 1)
       mirrored-hit h =

@@ -18,7 +18,7 @@ Answer p a u l n (At i) = (i < n) × First p a u l i
 Answer p a u l n Nothing = (i : ℕ) → i < n → ¬ Hit p a u l i
 
 -- a modulus, a difference and a first element that the functions take: a product of two of them fits 64 bits
-pub record Takes (p a u : ℕ) : Type 0 where
+pub record Progression (p a u : ℕ) : Type 0 where
   pub small : p ≤ 4000000000
   pub step : a < p
   pub start : u < p

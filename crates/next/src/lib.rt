@@ -3,7 +3,7 @@
 // (k + 1) * p, before the modulus is taken.
 ghost use mathlib.Core.Path.{_≡_};
 ghost use Prim.Native.Nat.{_/_, _%_, _<_, _≤_};
-ghost use Rattle.next.specs.Hit.{Answer, Takes};
+ghost use Rattle.next.specs.Hit.{Answer, Progression};
 ghost use Rattle.next.specs.Rounds.{Searched, Least};
 
 // The index of the least hit, or that there is none.
@@ -68,7 +68,7 @@ fn search(p: u64, a: u64, u: u64, l: u64, w: u64, b: u64) -> u64
 
 // The least i below n for which u + i * a, modulo p, lies below l.
 pub fn next_hit(p: u64, a: u64, u: u64, l: u64, n: u64) -> Found
-    requires { ⌜ Takes p a u ⌝ }
+    requires { ⌜ Progression p a u ⌝ }
     requires { ⌜ n ≤ 4000000000 ⌝ }
     ensures { λ r. ⌜ Answer p a u l n r ⌝ }
 {

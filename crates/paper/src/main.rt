@@ -1,6 +1,5 @@
 // A small kitchen on paper: each cell with its hash and the highest level at which it passes, and then a short evening on two
 // handhelds, step by step, so that a person with a pencil can follow. docs/KITCHEN.md walks through what this prints.
-ghost use Prim.Native.Nat.{_<_};
 use rule::Settings;
 use sketch::Sketch;
 use sketch::estimates::Estimate;
@@ -8,9 +7,7 @@ use sketch::estimates::Estimate;
 const OUT: i32 = 1;
 
 // Ten cells, and room for three.
-fn kitchen() -> Settings
-    ensures { λ r. ⌜ 0 < r .p ⌝ }
-{
+fn kitchen() -> Settings {
     Settings {
         n: 10,
         p: 101,
@@ -29,9 +26,7 @@ fn number(x: u32) {
 }
 
 // The highest level at which the cell passes; at level 0 every cell does.
-fn highest(settings: Settings, x: u32) -> u32
-    requires { ⌜ 0 < settings .p ⌝ }
-{
+fn highest(settings: Settings, x: u32) -> u32 {
     let mut level = settings.top();
     while 0 < level {
         if settings.passes(level, x) {
@@ -54,15 +49,13 @@ fn print_regions(settings: Settings) {
     }
 }
 
-fn print_list(settings: Settings)
-    requires { ⌜ 0 < settings .p ⌝ }
-{
+fn print_list(settings: Settings) {
     text(b"cell hash highest level\n");
     let mut x = 1;
     while x <= 10 {
         number(x);
         text(b" ");
-        number(settings.hash(x));
+        io::print_decimal(OUT, settings.hash(x));
         text(b" ");
         number(highest(settings, x));
         text(b"\n");
@@ -83,7 +76,7 @@ fn print_cells(cells: &[u32]) {
 fn print_about(count: u32, level: u32) {
     text(b", about ");
     if level < 32 {
-        io::print_decimal(OUT, (count as u64) << level);
+        io::print_decimal(OUT, sketch::stands_at(level, count));
     }
 }
 

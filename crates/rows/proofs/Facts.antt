@@ -13,10 +13,13 @@ use lib.Dec.{leb, ltb}
 use lib.ListN.{length, take, drop, getD}
 use lib.Seq.{take-append-seam, drop-append-seam}
 use borrow.Author.Tests.{ltb-true, ltb-false, leb-true, lt-ltb, le-ltb, le-leb, lt-leb}
+use Rattle.lists.specs.Lists.{listed, filter, Rising}
+use Rattle.lists.proofs.Tests.{tested}
+use Rattle.lists.proofs.Filters.{listed-cases, listed-head, listed-tail, filter-none}
+use Rattle.lists.proofs.Runs.{rising-listed}
 use Rattle.rule.specs.declared.Settings.{Settings}
-use Rattle.rule.specs.Cells.{Cells, listed, filter, Rising}
+use Rattle.rule.specs.Cells.{Cells}
 use Rattle.rule.specs.Rule.{passes}
-use Rattle.rule.proofs.Lists.{tested, listed-cases, listed-head, listed-tail, rising-listed, filter-none}
 use Rattle.rows.specs.Walked.{cellsBelow, Ascending, allIn, inOrder, risesFrom}
 
 -- every cell of the list passes at the level
@@ -78,7 +81,8 @@ below-from (y ∷ ys) lo hi x r =
     (λ (e : ltb y x ≡ false).
     let h : x ≤ y = ltb-false y x e in
     let f : leb x y ≡ true = le-leb x y h in
-    let none : filter (cellsBelow x) ys ≡ [] = filter-none (cellsBelow x) ys (λ z m. let b = rising-listed ys (suc y) hi z (r .2) m in le-ltb z x (omega arith)) in
+    let none : filter (cellsBelow x) ys ≡ [] = filter-none (cellsBelow x) ys
+    (λ z m. let b = rising-listed ys (suc y) hi z (r .2) m in le-ltb z x (omega arith)) in
     cc)
     (tested (ltb y x))
 

@@ -13,22 +13,24 @@ use native.Mathlib.Decide.{decLe}
 use lib.ListN.{length, set, length-append, length-set}
 use lib.Seq.{append-snoc}
 use borrow.Author.Tests.{lt-ltb, ltb-true}
+use Rattle.lists.specs.Lists.{keep, filter, run, range}
+use Rattle.lists.specs.Rows.{Stored}
+use Rattle.lists.proofs.Filters.{filter-none, filter-append}
+use Rattle.lists.proofs.Runs.{run-append, listed-run}
+use Rattle.lists.proofs.Stores.{stored-none, stored-more}
 use Rattle.rule.specs.declared.Settings.{Settings}
 use Rattle.rule.specs.declared.answers.Found.{Found}
 use Rattle.rule.specs.declared.answers.Found.the-variants as found
-use Rattle.rule.specs.Cells.{Cells, keep, filter, run, range}
+use Rattle.rule.specs.Cells.{Cells}
 use Rattle.rule.specs.Rule.{hash, region, passes}
 use Rattle.rule.specs.Samples.{rangeCount, nextHit}
 use Rattle.rule.specs.Refusals.{answered, ofFound}
-use Rattle.rule.proofs.Lists.{filter-none, filter-append, run-append, listed-run}
-use Rattle.rule.proofs.Rows.{next-some, walk-some, walk-none}
-use Rattle.find.specs.declared.Hit.{Hit}
+use Rattle.rule.proofs.NextHits.{next-some, walk-some, walk-none}
+use Rattle.rows.specs.declared.strides.Hit.{Hit}
 use Rattle.find.specs.Finding.{hits}
-use Rattle.find.specs.Striding.{IsHit, Next}
+use Rattle.rows.specs.Striding.{IsHit, Next}
 use Rattle.find.proofs.Counting.{count-none}
 use Rattle.find.proofs.Hits.{hit-some, hit-none}
-use Rattle.rows.specs.Walked.{Stored}
-use Rattle.rows.proofs.Stores.{stored-none, stored-more}
 
 -- of a range, the first cells that are not in a set do not matter
 skip : (X : Cells) (lo x hi : ℕ) → lo ≤ x → ((y : ℕ) → lo ≤ y → y < x → y ≤ hi → X y ≡ false) → filter X (range lo hi) ≡ filter X (range x hi)
@@ -87,7 +89,8 @@ module _ (row : List ℕ) (k : ℕ) (s : Settings) (level first hi : ℕ) where
     along-end past =
         let zero : suc hi - hit .cell ≡ 0 = omega arith in
         let none-left : filter (passes s level) (range (hit .cell) hi) ≡ [] = ap (λ (n : ℕ). filter (passes s level) (run (hit .cell) n)) zero in
-        let all : g .done ≡ filter (passes s level) (range first hi) = sym (append-nil (g .done)) ∙ ap (λ (l : List ℕ). g .done ++ l) (sym none-left) ∙ g .left in
+        let all : g .done ≡ filter (passes s level) (range first hi) = sym (append-nil (g .done)) ∙ ap (λ (l : List ℕ). g .done ++ l) (sym none-left)
+        ∙ g .left in
         rw (← all) (g .stored)
 
     module _ (last : hit .cell ≤ hi) (room : k + rangeCount s level first hi ≤ length row) where
@@ -96,17 +99,26 @@ module _ (row : List ℕ) (k : ℕ) (s : Settings) (level first hi : ℕ) where
 
       pub along-room : next < length out
       unfolding rangeCount
-      along-room = omega (arith, g .same, g .stored .next-place, ap length (g .left), length-append (g .done) (filter (passes s level) (range (hit .cell) hi)), ap length here)
+      along-room = omega (
+        arith,
+        g .same,
+        g .stored .next-place,
+        ap length (g .left),
+        length-append (g .done)
+            (filter (passes s level) (range (hit .cell) hi)),
+        ap length here,
+      )
 
       pub along-on : (far : ℕ) (r : Hit) → hi ≤ hit .cell + far → Next s level far hit r → Along (set out next (hit .cell)) (next + 1) r
       along-on far r near n =
           let x = hit .cell in
           let rest : filter (passes s level) (range (suc x) hi) ≡ filter (passes s level) (range (r .cell) hi) =
-          skip (passes s level) (suc x) (r .cell) hi (n .further) (λ y a b c. n .between y a b (omega arith)) in
+          skip (passes s level) (suc x) (r .cell) hi (n .further) (λ y a b c. n .skipped y a b (omega arith)) in
           record {
             done = g .done ++ (x ∷ []);
             stored = stored-more (g .stored) x (omega (arith, along-room, g .same));
-            left = append-snoc (g .done) x (filter (passes s level) (range (r .cell) hi)) ∙ ap (λ (l : List ℕ). g .done ++ (x ∷ l)) (sym rest) ∙ ap (λ (l : List ℕ). g .done ++ l) (sym here) ∙ g .left;
+            left = append-snoc (g .done) x (filter (passes s level) (range (r .cell) hi)) ∙ ap (λ (l : List ℕ). g .done ++ (x ∷ l)) (sym rest)
+                ∙ ap (λ (l : List ℕ). g .done ++ l) (sym here) ∙ g .left;
             from = omega (arith, g .from, n .further);
             is = λ w. n .hit (omega arith);
             same = simp length-set (g .same);
@@ -127,7 +139,8 @@ module _ (s : Settings) (level lo hi : ℕ) where
   hits-none e row k = rw (walk-none s level lo hi e) (stored-none row k)
 
   module _ (x : ℕ) (e : nextHit s level lo hi ≡ some x) where
-    pub hits-one : rangeCount s level lo hi ≡ 1 → (row : List ℕ) (k : ℕ) → k < length row → Stored row k (filter (passes s level) (range lo hi)) (k + 1) (set row k x)
+    pub hits-one : rangeCount s level lo hi ≡ 1 → (row : List ℕ) (k : ℕ) → k < length row
+        → Stored row k (filter (passes s level) (range lo hi)) (k + 1) (set row k x)
     unfolding rangeCount
     hits-one one row k room =
         let rest : filter (passes s level) (range (suc x) hi) ≡ [] =
@@ -139,5 +152,6 @@ module _ (s : Settings) (level lo hi : ℕ) where
     unfolding rangeCount
     hits-from =
         let h = next-some s level lo hi x e in
-        let same : filter (passes s level) (range x hi) ≡ filter (passes s level) (range lo hi) = front (passes s level) x hi (h .1) (h .2) ∙ sym (walk-some s level lo hi x e) in
+        let same : filter (passes s level) (range x hi) ≡ filter (passes s level) (range lo hi) = front (passes s level) x hi (h .1) (h .2)
+        ∙ sym (walk-some s level lo hi x e) in
         (same, ap length same)

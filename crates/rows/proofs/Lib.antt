@@ -1,6 +1,7 @@
 -- The laws, for this crate and for those above it.
 pub mod Walks
-pub mod Stores
 pub mod Merges
 pub mod Facts
 pub mod Hitting
+pub mod Moves
+pub mod Gaps

@@ -13,11 +13,10 @@ use native.Mathlib.Nat.{add-zero}
 use lib.ListN.{length, drop, getD, set, length-set, drop-of-length-le}
 use lib.Seq.{append-snoc}
 use borrow.Author.Tests.{lt-ltb, le-ltb}
-use Rattle.rule.specs.Rows.{union}
-use Rattle.rule.proofs.Passing.{by-order}
-use Rattle.rule.proofs.Steps.{next}
-use Rattle.rows.specs.Walked.{Stored}
-use Rattle.rows.proofs.Stores.{stored-none, stored-more, stored-then}
+use Rattle.lists.specs.Rows.{union, Stored}
+use Rattle.lists.proofs.Tests.{by-order}
+use Rattle.lists.proofs.Steps.{next}
+use Rattle.lists.proofs.Stores.{stored-none, stored-more, stored-then}
 
 -- what a turn makes of the next cells x and y of the two rows: the lesser of them, and by how much each row moves on
 pub record Turn (x y m s t : ℕ) : Type 0 where

@@ -16,14 +16,14 @@ use lib.Bits.{bitOr, or-zero-l, or-add-and, and-le-r}
 use lib.Dec.{ltb, eqb}
 use lib.ListN.{length, drop, getD, drop-of-length-le}
 use borrow.Author.Tests.{lt-ltb, le-ltb, eqb-true, eq-eqb}
+use Rattle.lists.specs.Lists.{filter}
+use Rattle.lists.proofs.Tests.{tested}
+use Rattle.lists.proofs.Steps.{next}
 use Rattle.rule.specs.declared.Settings.{Settings}
 use Rattle.rule.specs.declared.Hasher.{Hasher}
-use Rattle.rule.specs.Cells.{filter}
 use Rattle.rule.specs.Rule.{Good, hash, Ready, hasherOf, region, passes}
 use Rattle.rule.proofs.Facts.{ready}
-use Rattle.rule.proofs.Lists.{tested}
 use Rattle.rule.proofs.Passing.{passes-zero}
-use Rattle.rule.proofs.Steps.{next}
 use Rattle.rows.specs.Walked.{cellsBelow, Ascending, allIn}
 
 -- a walk with the hasher of the settings
@@ -47,7 +47,8 @@ module _ {s : Settings} {hasher : Hasher} (made : hasher ≡ hasherOf s) where
 
 -- A walk that tests every cell: t is the test so far, f what is to hold of the cells from i on, and g of those after cell i.
 module _ (l : List ℕ) (i : ℕ) (t r : Bool) (f : List ℕ → Bool) (e : (t && f (drop i l)) ≡ r) where
-  pub test-on : i < length l → (u : Bool) (g : List ℕ → Bool) → f (getD l i 0 ∷ drop (i + 1) l) ≡ (u && g (drop (i + 1) l)) → ((t && u) && g (drop (i + 1) l)) ≡ r
+  pub test-on : i < length l → (u : Bool) (g : List ℕ → Bool) → f (getD l i 0 ∷ drop (i + 1) l) ≡ (u && g (drop (i + 1) l))
+      → ((t && u) && g (drop (i + 1) l)) ≡ r
   test-on h u g q = and-assoc t u (g (drop (i + 1) l)) ∙ ap (λ v. t && v) (sym (ap f (next l i h) ∙ q)) ∙ e
 
   pub test-end : length l ≤ i → f [] ≡ true → t ≡ r
@@ -57,7 +58,8 @@ module _ (l : List ℕ) (i : ℕ) (t r : Bool) (f : List ℕ → Bool) (e : (t &
 pub none-seen : (s x : ℕ) → eqb (bitOr s x) 0 ≡ (eqb s 0 && eqb x 0)
 none-seen s x =
     ⊎-elim
-    (λ (z : eqb s 0 ≡ true). ap (λ (v : ℕ). eqb (bitOr v x) 0) (eqb-true s 0 z) ∙ ap (λ (v : ℕ). eqb v 0) (or-zero-l x) ∙ ap (λ (t : Bool). t && eqb x 0) (sym z))
+    (λ (z : eqb s 0 ≡ true). ap (λ (v : ℕ). eqb (bitOr v x) 0) (eqb-true s 0 z) ∙ ap (λ (v : ℕ). eqb v 0) (or-zero-l x)
+    ∙ ap (λ (t : Bool). t && eqb x 0) (sym z))
     (λ (z : eqb s 0 ≡ false).
     ⊎-elim
     (λ (o : eqb (bitOr s x) 0 ≡ true).
@@ -95,8 +97,20 @@ module _ {row : List ℕ} {x lo hi : ℕ} (up : Ascending row) (g : Parted row x
 pub parted-end : (row : List ℕ) (x n : ℕ) → Parted row x n n → n ≡ length (filter (cellsBelow x) row)
 parted-end [] x n g = omega (arith, g .within)
 parted-end (y ∷ ys) x zero g =
-    let rest : Parted ys x zero zero = record { order = omega arith; within = omega arith; front = λ k h. absurd (omega arith); back = λ k h w. g .back (suc k) (omega arith) (omega arith) } in
+    let rest : Parted ys x zero zero = record {
+      order = omega arith;
+      within = omega arith;
+      front = λ k h. absurd (omega arith);
+      back = λ k h w. g .back
+          (suc k) (omega arith) (omega arith);
+    } in
     rw (le-ltb y x (g .back zero (omega arith) (omega arith))) (parted-end ys x zero rest)
 parted-end (y ∷ ys) x (suc n) g =
-    let rest : Parted ys x n n = record { order = omega arith; within = omega (arith, g .within); front = λ k h. g .front (suc k) (omega arith); back = λ k h w. g .back (suc k) (omega arith) (omega arith) } in
+    let rest : Parted ys x n n = record {
+      order = omega arith;
+      within = omega (arith, g .within);
+      front = λ k h. g .front (suc k)
+          (omega arith);
+      back = λ k h w. g .back (suc k) (omega arith) (omega arith);
+    } in
     rw (lt-ltb y x (g .front zero (omega arith))) (ap suc (parted-end ys x n rest))

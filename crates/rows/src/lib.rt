@@ -3,16 +3,19 @@ ghost use mathlib.Core.Path.{_≡_};
 ghost use mathlib.Core.Bool.{true};
 ghost use Prim.Native.Nat.{ℕ, _+_, _-_, _≤_, min};
 ghost use lib.ListN.{length};
-ghost use Rattle.rule.specs.Cells.{filter, range};
+ghost use Rattle.lists.specs.Lists.{filter, range};
+ghost use Rattle.lists.specs.Rows.{allZero, union, Stored};
 ghost use Rattle.rule.specs.Rule.{Good, passes};
-ghost use Rattle.rule.specs.Rows.{allZero, union};
 ghost use Rattle.rule.specs.Samples.{rangeCount};
 ghost use Rattle.find.specs.Finding.{Within};
-ghost use Rattle.rows.specs.Walked.{cellsBelow, Ascending, allIn, inOrder, risesFrom, Stored};
-use find::Hit;
-use find::Strides;
+ghost use Rattle.rows.specs.Walked.{cellsBelow, Ascending, allIn, inOrder, risesFrom};
+
+pub mod strides;
+
 use rule::Settings;
 use rule::answers::Found;
+use strides::Hit;
+use strides::Strides;
 
 // The cells of the row rise strictly from above 0, and each is at most n and passes at the level.
 // At level 0 every cell passes, and no hash is asked for.
@@ -160,14 +163,15 @@ fn store_along(
     first: u32,
     hi: u32,
 ) -> usize
-    requires { ⌜ Within settings first hi × (first ≤ hi) × (passes settings level first ≡ true) × (at + rangeCount settings level first hi ≤ length (now out)) ⌝ }
+    requires { ⌜ Within settings first hi × (first ≤ hi) × (passes settings level first ≡ true)
+        × (at + rangeCount settings level first hi ≤ length (now out)) ⌝ }
     ensures { λ r. ⌜ Stored (now (out .entry)) at (filter (passes settings level) (range first hi)) r (now (out .exit)) ⌝ }
 {
     let far = hi - first;
     let strides = Strides::of(settings, level, far);
     let mut hit = Hit {
         cell: first,
-        hash: settings.hash(first),
+        hash: settings.hash(first) as u32,
     };
     let mut next = at;
     while hit.cell <= hi {

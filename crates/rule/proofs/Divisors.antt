@@ -1,23 +1,25 @@
 -- The greatest common divisor: what it is, and that subtracting and halving finds it. Assumes nothing.
 --     only-one, one-only    "no common divisor but 1" and "the greatest is 1" say the same
 --     Strips, equal-bits, end-zeros     how often a number can be halved, told by its bits
---     Keeps, keeps-start, keeps-turn, keeps-end     the loop over two odd numbers
+--     KeepsDivisors, keeps-start, keeps-turn, keeps-end     the loop over two odd numbers
 --     first-zero, second-zero, strips-end     zeros and even numbers
 use Prim.Native.Nat.{ℕ, zero, suc, _+_, _-_, _*_, _/_, _%_, _^_, _<_, _≤_, _∣_, min, max}
 use mathlib.Core.Path.{_≡_, sym, ap, ap₂, _∙_, subst}
 use mathlib.Core.Bool.{true, and-eq-true-iff}
 use mathlib.Core.Logic.{_⊎_, inl, inr, ⊎-elim}
 use native.Mathlib.Omega.{arith}
-use native.Mathlib.Decide.{decLe}
-use native.Mathlib.Nat.{mul-one, mul-assoc, pow-suc, suc-min-suc, le-trans, le-mul-of-pos-right, mul-dvd-mul, dvd-of-mul-dvd-mul-right, dvd-zero, one-dvd, dvd-refl, dvd-trans, dvd-add, dvd-sub, dvd-add-iff-right, dvd-mul-left-of-dvd, dvd-mul-right-of-dvd, dvd-mul-right, le-of-dvd, le-antisymm, lt-of-not-le, pos-of-dvd-of-pos, dvd-iff-mod-eq-zero}
+use native.Mathlib.Nat.{mul-one, mul-assoc, pow-suc, suc-min-suc, le-trans, le-mul-of-pos-right, mul-dvd-mul, dvd-of-mul-dvd-mul-right, dvd-zero, one-dvd}
+use native.Mathlib.Nat.{dvd-refl, dvd-trans, dvd-add, dvd-sub, dvd-add-iff-right, dvd-mul-left-of-dvd, dvd-mul-right-of-dvd, dvd-mul-right, le-of-dvd}
+use native.Mathlib.Nat.{le-antisymm, pos-of-dvd-of-pos, dvd-iff-mod-eq-zero}
 use borrow.Author.Tests.{eqb-true, eq-eqb}
 use lib.Dec.{eqb, lit<}
 use lib.Pow.{pow-pos, pow-add, shl-shr}
 use lib.Count.{trailingZeros, under}
 use lib.Bits.{bitXor, xor-add-and, xor-shr, xor-zero-r}
-use Rattle.rule.specs.Cells.{greatest}
+use Rattle.lists.specs.Searches.{greatest}
+use Rattle.lists.proofs.Tests.{by-order}
+use Rattle.lists.proofs.Searches.{greatest-above, greatest-found, greatest-to}
 use Rattle.rule.specs.Rule.{dividesBoth, commonDivisor}
-use Rattle.rule.proofs.Lists.{greatest-above, greatest-found, greatest-to}
 
 both-facts : (x y d : ℕ) → dividesBoth x y d ≡ true → (d ∣ x) × (d ∣ y)
 unfolding dividesBoth
@@ -54,10 +56,6 @@ pub common-few : (x y : ℕ) → commonDivisor x y ≤ max x y
 unfolding commonDivisor
 common-few x y = greatest-to (dividesBoth x y) (max x y)
 
--- the cases of two numbers' order, and of the lowest bit
-by-order : (i j : ℕ) → (i < j) ⊎ (j ≤ i)
-by-order i j = elim (decLe j i) [ yes h ↦ inr h | no f ↦ inl (lt-of-not-le f) ]
-
 parity : (d : ℕ) → (d % 2 ≡ 0) ⊎ (d % 2 ≡ 1)
 parity d = ⊎-elim (λ h. inl (omega arith)) (λ h. inr (omega arith)) (by-order (d % 2) 1)
 
@@ -68,11 +66,11 @@ pub only-one : (x y : ℕ) → 0 < y → ((d : ℕ) → d ∣ x → d ∣ y → 
 only-one x y pos h = let w = common-divides x y (omega arith) in h (commonDivisor x y) (w .0) (w .1)
 
 -- x and y have the common divisors of a and p
-pub record Keeps (a p x y : ℕ) : Type 0 where
+pub record KeepsDivisors (a p x y : ℕ) : Type 0 where
   pub there : (d : ℕ) → d ∣ a → d ∣ p → (d ∣ x) × (d ∣ y)
   pub back : (d : ℕ) → d ∣ x → d ∣ y → (d ∣ a) × (d ∣ p)
 
-pub keeps-start : (a p : ℕ) → Keeps a p a p
+pub keeps-start : (a p : ℕ) → KeepsDivisors a p a p
 keeps-start a p = record { there = λ d ha hp. (ha, hp); back = λ d ha hp. (ha, hp) }
 
 -- a divisor of an odd number is odd
@@ -110,7 +108,8 @@ pub record Strips (k t n : ℕ) : Type 0 where
   pub odd : rest % 2 ≡ 1
 
 -- one bit more: where the lowest bits are equal, the difference is twice that of the halves
-strips-bit : (k t r x y : ℕ) → (x + y) % 2 ≡ r → (x % 2 ≡ y % 2 → Strips k t ((x / 2 - y / 2) + (y / 2 - x / 2))) → Strips (suc k) (under r t) ((x - y) + (y - x))
+strips-bit : (k t r x y : ℕ) → (x + y) % 2 ≡ r → (x % 2 ≡ y % 2 → Strips k t ((x / 2 - y / 2) + (y / 2 - x / 2)))
+    → Strips (suc k) (under r t) ((x - y) + (y - x))
 strips-bit k t zero x y e h =
     let s = h (omega arith) in
     let z : (x - y) + (y - x) ≡ ((x / 2 - y / 2) + (y / 2 - x / 2)) * 2 = omega arith in
@@ -142,27 +141,29 @@ pub strips-few : {k t n : ℕ} → (s : Strips k t n) → s .rest ≤ n
 strips-few {k} {t} s = rw (s .whole) (le-mul-of-pos-right (s .rest) (pow-pos t))
 
 -- a turn: the lesser, and the odd part of the difference, have the same common divisors, which are odd
-pub keeps-turn : (a p x y t : ℕ) → Keeps a p x y → x % 2 ≡ 1 → (s : Strips 32 t ((x - y) + (y - x))) → Keeps a p (s .rest) (min x y)
+pub keeps-turn : (a p x y t : ℕ) → KeepsDivisors a p x y → x % 2 ≡ 1 → (s : Strips 32 t ((x - y) + (y - x))) → KeepsDivisors a p (s .rest) (min x y)
 keeps-turn a p x y t k o s =
     record {
       there =
           λ d ha hp.
           (let h = k .there d ha hp in (
-            odd-drops t d (s .rest) (divisor-odd d x (h .0) o) (subst (λ (v : ℕ). d ∣ v) (s .whole) (dvd-add d (dvd-sub d (h .0) (h .1)) (dvd-sub d (h .1) (h .0)))),
+            odd-drops t d (s .rest) (divisor-odd d x (h .0) o)
+                (subst (λ (v : ℕ). d ∣ v) (s .whole) (dvd-add d (dvd-sub d (h .0) (h .1)) (dvd-sub d (h .1) (h .0)))),
             ⊎-elim (λ (l : x < y). to d (omega arith) (h .0)) (λ (l : y ≤ x). to d (omega arith) (h .1)) (by-order x y),
           ));
       back =
           λ d hr hm.
           (let hg : d ∣ (x - y) + (y - x) = to d (s .whole) (dvd-mul-right-of-dvd d hr (2 ^ t)) in
           let hs = dvd-add d hm hg in
-          ⊎-elim (λ (l : x < y). k .back d (to d (omega arith) hm) (to d (omega arith) hs)) (λ (l : y ≤ x). k .back d (to d (omega arith) hs) (to d (omega arith) hm)) (by-order x y));
+          ⊎-elim (λ (l : x < y). k .back d (to d (omega arith) hm) (to d (omega arith) hs))
+          (λ (l : y ≤ x). k .back d (to d (omega arith) hs) (to d (omega arith) hm)) (by-order x y));
     }
   where
     to : (d : ℕ) {u v : ℕ} → v ≡ u → d ∣ u → d ∣ v
     to d e h = subst (λ (w : ℕ). d ∣ w) (sym e) h
 
 -- where both are x, x is the greatest common divisor
-pub keeps-end : (a p x : ℕ) → Keeps a p x x → x ≡ commonDivisor a p
+pub keeps-end : (a p x : ℕ) → KeepsDivisors a p x x → x ≡ commonDivisor a p
 keeps-end a p x k =
     ⊎-elim
     (λ (pos : 0 < max a p).
@@ -201,7 +202,8 @@ below-twos (suc i) zero u v d ou ov hu hv = odd-below (suc i) 0 u v d (divisor-o
 below-twos (suc i) (suc j) u v d ou ov hu hv =
     ⊎-elim
     (λ (e : d % 2 ≡ 0).
-    let two : commonDivisor u v * 2 ^ min (suc i) (suc j) ≡ commonDivisor u v * 2 ^ min i j * 2 = ap (λ (m : ℕ). commonDivisor u v * 2 ^ m) (suc-min-suc i j) ∙ twice (commonDivisor u v) (min i j) in
+    let two : commonDivisor u v * 2 ^ min (suc i) (suc j) ≡ commonDivisor u v * 2 ^ min i j * 2 = ap (λ (m : ℕ). commonDivisor u v * 2 ^ m) (suc-min-suc i j)
+    ∙ twice (commonDivisor u v) (min i j) in
     omega (arith, below-twos i j u v (d / 2) ou ov (halves e u i hu) (halves e v j hv)))
     (λ (o : d % 2 ≡ 1). odd-below (suc i) (suc j) u v d o (omega arith) hu hv)
     (parity d)

@@ -4,7 +4,7 @@
 --     positive, fewer, small     what the other laws use of good settings
 --     ready           the hasher of good settings finds hashes
 use Prim.Native.Nat.{_^_, _<_}
-use mathlib.Core.Path.{_≡_, refl, sym}
+use mathlib.Core.Path.{_≡_, refl}
 use mathlib.Core.Bool.{Bool, true, false, false≢true}
 use mathlib.Core.List.{List, [], _∷_}
 use native.Mathlib.Omega.{arith}
@@ -22,12 +22,6 @@ pub each : (ts : List Bool) → all ts ≡ true → Each ts
 each [] e = tt
 each (true ∷ ts) e = (refl, each ts e)
 each (false ∷ ts) e = absurd (false≢true e)
-
--- two tests that hold together are equal
-pub same-test : (t u : Bool) → (t ≡ true → u ≡ true) → (u ≡ true → t ≡ true) → t ≡ u
-same-test true u f g = sym (f refl)
-same-test false true f g = g refl
-same-test false false f g = refl
 
 pub good-facts : (s : Settings) → isGood s ≡ true → Good s
 unfolding isGood

@@ -8,8 +8,9 @@ use Prim.Native.Nat.{ℕ, _+_, _-_, _*_, _/_, _%_, _^_, _<_, _≤_}
 use mathlib.Core.Path.{_≡_, refl, ap, _∙_}
 use mathlib.Core.Logic.{⊎-elim}
 use native.Mathlib.Omega.{arith}
-use native.Mathlib.Nat.{div-mul-le-self, lt-div-mul-add, div-lt-iff-lt-mul, mul-le-mul-right, mul-lt-mul-of-pos-left, le-of-mul-le-mul-right, lt-of-mul-lt-mul-right, div-eq-of-lt, div-eq-of-lt-le, mul-add-mod-self-right, mod-eq-of-lt}
-use Rattle.rule.proofs.Passing.{by-order}
+use native.Mathlib.Nat.{div-mul-le-self, lt-div-mul-add, div-lt-iff-lt-mul, mul-le-mul-right, mul-lt-mul-of-pos-left, le-of-mul-le-mul-right}
+use native.Mathlib.Nat.{lt-of-mul-lt-mul-right, div-eq-of-lt, div-eq-of-lt-le, mul-add-mod-self-right, mod-eq-of-lt}
+use Rattle.lists.proofs.Tests.{by-order}
 
 pub fraction-fits : (a p M : ℕ) → a < p → 0 < M → a * M / p < M
 fraction-fits a p M h pos = div-lt-iff-lt-mul {k = p} {x = a * M} {y = M} (omega arith) .1 (omega (arith, mul-lt-mul-of-pos-left {m = a} {n = p} {k = M} h pos))

@@ -15,23 +15,22 @@
 -- Assumes nothing.
 use mathlib.Core.Path.{_≡_, sym, ap, _∙_, subst}
 use mathlib.Core.Bool.{Bool, true, false}
-use mathlib.Core.Logic.{_⊎_, inl, inr, ⊎-elim}
+use mathlib.Core.Logic.{⊎-elim}
 use Prim.Native.Nat.{ℕ, suc, _+_, _-_, _*_, _/_, _%_, _^_, _≤_, _<_, _∣_}
 use native.Mathlib.Omega.{arith}
-use native.Mathlib.Decide.{decLe}
-use native.Mathlib.Nat.{div-eq-of-lt, mul-le-mul, lt-of-not-le, mod-lt, div-add-mod', div-one, mul-le-mul-left, div-mul-le-self, le-div-iff-mul-le, pow-le-pow-right, one-le-pow, mul-add-mod-self-right, mul-mod-left, mul-sub, dvd-mul-left, dvd-mul-right, eq-of-mul-eq-mul-right, div-eq-of-lt-le, mod-eq-of-lt}
+use native.Mathlib.Nat.{div-eq-of-lt, mul-le-mul, mod-lt, div-add-mod', div-one, mul-le-mul-left, div-mul-le-self, le-div-iff-mul-le, pow-le-pow-right}
+use native.Mathlib.Nat.{one-le-pow, mul-add-mod-self-right, mul-mod-left, mul-sub, dvd-mul-left, dvd-mul-right, eq-of-mul-eq-mul-right, div-eq-of-lt-le}
+use native.Mathlib.Nat.{mod-eq-of-lt}
 use lib.Count.{leadingZeros, leading-top}
 use lib.Dec.{leb, eqb}
 use lib.Pow.{pow-mono, pow-pos}
 use borrow.Author.Tests.{ltb-true, lt-ltb, le-leb, leb-true, leb-false, eqb-true, eqb-false, eq-eqb}
+use Rattle.lists.specs.Searches.{least, greatest}
+use Rattle.lists.proofs.Tests.{tested, by-order, same-test}
+use Rattle.lists.proofs.Searches.{least-has, least-least, greatest-has, greatest-above, greatest-found}
 use Rattle.rule.specs.declared.Settings.{Settings}
-use Rattle.rule.specs.Cells.{least, greatest}
 use Rattle.rule.specs.Rule.{Good, hash, region, passes, top}
-use Rattle.rule.proofs.Lists.{tested, least-has, least-least, greatest-has, greatest-above, greatest-found}
-use Rattle.rule.proofs.Facts.{positive, fewer, small, same-test}
-
-pub by-order : (i j : ℕ) → (i < j) ⊎ (j ≤ i)
-by-order i j = elim (decLe j i) [ yes h ↦ inr h | no f ↦ inl (lt-of-not-le f) ]
+use Rattle.rule.proofs.Facts.{positive, fewer, small}
 
 pub passes-zero : (s : Settings) (x : ℕ) → 0 < s .p → passes s 0 x ≡ true
 unfolding passes region hash

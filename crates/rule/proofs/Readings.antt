@@ -1,7 +1,8 @@
--- Each answer's reading in document 01's terms is one-to-one: two answers of one reading coincide.
+-- Each answer's reading in the rules' terms (RULES: Refusals) is one-to-one: two answers of one reading coincide.
+--     equation-tight  two outcomes of a promise that is an equation coincide
 --     answer-one, counted-one, found-one, written-one, taken-one
 -- Assumes nothing.
-use mathlib.Core.Path.{_≡_, refl}
+use mathlib.Core.Path.{_≡_, refl, sym, _∙_}
 use Rattle.rule.specs.Refusals.{ofAnswer, ofCounted, ofFound, ofWritten, ofTaken}
 use Rattle.rule.specs.declared.answers.Answer.{Answer}
 use Rattle.rule.specs.declared.answers.Answer.the-variants as answer
@@ -13,6 +14,9 @@ use Rattle.rule.specs.declared.answers.Written.{Written}
 use Rattle.rule.specs.declared.answers.Written.the-variants as written
 use Rattle.rule.specs.declared.answers.Taken.{Taken}
 use Rattle.rule.specs.declared.answers.Taken.the-variants as taken
+
+pub equation-tight : {A : Type 0} {promised : A} (x y : A) → x ≡ promised → y ≡ promised → x ≡ y
+equation-tight x y e f = e ∙ sym f
 
 pub answer-one : (x y : Answer) → ofAnswer x ≡ ofAnswer y → x ≡ y
 answer-one answer.Done answer.Done e = refl

@@ -14,11 +14,15 @@ use native.Mathlib.Nat.{le-antisymm}
 use lib.Dec.{leb}
 use lib.ListN.{length}
 use borrow.Author.Tests.{le-leb, leb-true}
+use Rattle.lists.specs.Lists.{listed, range, Rising}
+use Rattle.lists.proofs.Tests.{tested}
+use Rattle.lists.proofs.Filters.{filter-same, listed-filter, filter-none, filter-fewer}
+use Rattle.lists.proofs.Runs.{filter-rises, run-listed, filter-one}
+use Rattle.lists.proofs.Searches.{least-from, least-to, least-has, least-least, least-now, least-same}
 use Rattle.rule.specs.declared.Settings.{Settings}
-use Rattle.rule.specs.Cells.{Cells, noCells, _∪_, listed, range, Rising}
+use Rattle.rule.specs.Cells.{Cells, noCells, _∪_}
 use Rattle.rule.specs.Rule.{Good, passes, top}
 use Rattle.rule.specs.Samples.{passing, sample, fits, lowest}
-use Rattle.rule.proofs.Lists.{tested, filter-same, listed-filter, filter-none, filter-fewer, filter-rises, run-listed, filter-one, least-from, least-to, least-has, least-least, least-now, least-same}
 use Rattle.rule.proofs.Passing.{passes-lower, passes-one}
 
 -- is x one of the cells 1..n?
@@ -36,7 +40,8 @@ pub inside-left : (X Y : Cells) → Inside X (X ∪ Y)
 inside-left X Y x h = ap (λ (t : Bool). t || Y x) h
 
 pub inside-right : (X Y : Cells) → Inside Y (X ∪ Y)
-inside-right X Y x h = ⊎-elim (λ (e : X x ≡ true). let r : (X x || Y x) ≡ true = cc in r) (λ (e : X x ≡ false). let r : (X x || Y x) ≡ true = cc in r) (tested (X x))
+inside-right X Y x h = ⊎-elim (λ (e : X x ≡ true). let r : (X x || Y x) ≡ true = cc in r) (λ (e : X x ≡ false). let r : (X x || Y x) ≡ true = cc in r)
+    (tested (X x))
 
 -- on the cells that pass at the level m, X and Y agree
 abbrev pub Agree : Settings → ℕ → Cells → Cells → Type 0

@@ -1,4 +1,4 @@
--- The numbers of the refusals, and what a call answers in document 01's terms. Assumes nothing: these are definitions.
+-- The numbers of the refusals, and what a call answers, in their terms (RULES: Refusals). Assumes nothing: these are definitions.
 use Prim.Native.Nat.{ℕ}
 use mathlib.Core.Bool.{Bool, true, false}
 use mathlib.Core.List.{List, [], _∷_}
@@ -49,10 +49,14 @@ badImage = 8
 abbrev pub badLine : ℕ
 badLine = 9
 
--- A call is answered, with values, or refused, with its number and 7's block, which is zero elsewhere.
-pub data Paper : Type 0 where
-  answered : List ℕ → Paper
-  refused : ℕ → ℕ → Paper
+-- A call is answered, with what it tells, or refused, with its number and its place: the block for 7, zero elsewhere.
+pub data Outcome (Told : Type 0) : Type 0 where
+  answered : Told → Outcome Told
+  refused : ℕ → ℕ → Outcome Told
+
+-- most calls tell whole numbers
+abbrev pub Paper : Type 0
+Paper = Outcome (List ℕ)
 
 -- Each case of each answer's enum. The promises are put through these.
 
@@ -75,9 +79,9 @@ ofWritten (written.Refused number) = refused number 0
 
 abbrev pub ofTaken : Taken → Paper
 ofTaken taken.Done = answered []
-ofTaken (taken.Refused number block) = refused number block
+ofTaken (taken.Refused number place) = refused number place
 
 -- the answer where the test holds, and otherwise the refusal of this number
-abbrev pub unless : Bool → ℕ → Paper → Paper
+abbrev pub unless : {Told : Type 0} → Bool → ℕ → Outcome Told → Outcome Told
 unless true number answer = answer
 unless false number answer = refused number 0

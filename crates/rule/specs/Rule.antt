@@ -4,11 +4,16 @@ use mathlib.Core.Path.{_≡_}
 use mathlib.Core.Bool.{Bool, true, _&&_}
 use mathlib.Core.List.{List, [], _∷_}
 use lib.Dec.{leb, ltb, eqb}
+use Rattle.lists.specs.Searches.{greatest}
 use Rattle.rule.specs.declared.Settings.{Settings}
 use Rattle.rule.specs.declared.Hasher.{Hasher}
-use Rattle.rule.specs.Cells.{Cells, greatest}
+use Rattle.rule.specs.Cells.{Cells}
 
--- good settings: the five rules
+-- the settings of all zeros
+abbrev pub noSettings : Settings
+noSettings = record { n = 0; p = 0; a = 0; b = 0; capacity = 0 }
+
+-- good settings: the five rules (RULES: Settings)
 pub record Good (s : Settings) : Type 0 where
   pub n-low : 1 ≤ s .n
   pub n-high : s .n ≤ 200000000
@@ -51,7 +56,7 @@ rules s =
 unfoldable pub isGood : Settings → Bool
 isGood s = all (rules s)
 
--- h(x) = (a·x + b) mod p
+-- h(x) = (a·x + b) mod p; modulo 0, which no rule allows, a number is itself (RULES: Hash)
 unfoldable pub hash : Settings → ℕ → ℕ
 hash s x = (s .a * x + s .b) % s .p
 
@@ -64,14 +69,14 @@ pub record Ready (h : Hasher) : Type 0 where
   pub good : Good (h .settings)
   pub made : h ≡ hasherOf (h .settings)
 
--- the size of the region of a level: p divided by 2^level, rounded down
+-- the size of the region of a level: p divided by 2^level, rounded down (RULES: Levels)
 unfoldable pub region : Settings → ℕ → ℕ
 region s level = s .p / 2 ^ level
 
--- the cells that pass at a level: the hash is below that size
+-- the cells that pass at a level: the hash is below that size (RULES: Passing)
 unfoldable pub passes : Settings → ℕ → Cells
 passes s level x = ltb (hash s x) (region s level)
 
--- the top: the greatest T with 2^T not above p, which has 32 bits
+-- the top: the greatest T with 2^T not above p, which has 32 bits (RULES: Levels)
 unfoldable pub top : Settings → ℕ
 top s = greatest (λ t. leb (2 ^ t) (s .p)) 32

@@ -1,12 +1,15 @@
--- Of a set of cells: its sample at a level, the lowest level at which it fits; of a range: how many pass, and the first. Assumes nothing: these are definitions.
+-- Of a set of cells: its sample at a level, the lowest level at which it fits; of a range: how many pass, and the first. Assumes nothing: these are
+-- definitions.
 use Prim.Native.Nat.{ℕ, _-_}
 use mathlib.Core.Bool.{Bool, _&&_}
 use mathlib.Core.List.{List, [], _∷_}
 use mathlib.Core.Option.{Option, some, none}
 use lib.Dec.{leb}
 use lib.ListN.{length}
+use Rattle.lists.specs.Lists.{filter, range}
+use Rattle.lists.specs.Searches.{least}
 use Rattle.rule.specs.declared.Settings.{Settings}
-use Rattle.rule.specs.Cells.{Cells, filter, range, least}
+use Rattle.rule.specs.Cells.{Cells}
 use Rattle.rule.specs.Rule.{passes, top}
 
 -- the cells of a set that pass at a level
@@ -25,7 +28,7 @@ fits s X level = leb (length (sample s X level)) (s .capacity)
 unfoldable pub lowest : Settings → Cells → ℕ → ℕ
 lowest s X here = least (fits s X) (top s - here) here
 
--- how many cells of lo..hi pass
+-- how many cells of lo..hi pass (RULES: Range count)
 unfoldable pub rangeCount : Settings → ℕ → ℕ → ℕ → ℕ
 rangeCount s level lo hi = length (filter (passes s level) (range lo hi))
 
@@ -33,6 +36,6 @@ abbrev pub first : List ℕ → Option ℕ
 first [] = none
 first (x ∷ xs) = some x
 
--- the first cell of lo..hi that passes
+-- the first cell of lo..hi that passes (RULES: Next hit)
 unfoldable pub nextHit : Settings → ℕ → ℕ → ℕ → Option ℕ
 nextHit s level lo hi = first (filter (passes s level) (range lo hi))

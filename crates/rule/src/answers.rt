@@ -1,4 +1,4 @@
-// What the calls answer. specs/Refusals.antt gives each case's number and values in document 01's terms.
+// What the calls answer. specs/Refusals.antt gives each case's number and values (RULES: Refusals).
 
 // Opening, adding, merging.
 pub enum Answer {
@@ -25,8 +25,8 @@ pub enum Written {
     Refused(u32),
 }
 
-// The image reader: 7 carries its block, which is zero elsewhere.
+// The image reader: 7 carries a place, which is its block; it is zero elsewhere.
 pub enum Taken {
     Done,
-    Refused { number: u32, block: u32 },
+    Refused { number: u32, place: u32 },
 }

@@ -2,9 +2,10 @@
 ghost use mathlib.Core.Path.{_≡_};
 ghost use Prim.Native.Nat.{ℕ, _+_, _-_, _^_, _%_, _<_, _≤_, min};
 ghost use lib.Dec.{leb};
-ghost use Rattle.rule.specs.Rule.{Good, commonDivisor, isGood, hash, Ready, hasherOf, region, passes, top};
+ghost use Rattle.rule.specs.Rule.{noSettings, Good, commonDivisor, isGood, hash, Ready, hasherOf, region, passes, top};
 
 pub mod answers;
+pub mod refusals;
 
 pub struct Settings {
     pub n: u32,
@@ -75,6 +76,19 @@ pub fn common_divisor(a: u32, p: u32) -> u32
     }
 }
 
+// The settings of all zeros, which aren't good.
+pub fn no_settings() -> Settings
+    ensures { λ r. ⌜ r ≡ noSettings ⌝ }
+{
+    Settings {
+        n: 0,
+        p: 0,
+        a: 0,
+        b: 0,
+        capacity: 0,
+    }
+}
+
 impl Settings {
     // All five rules, as tests without a branch.
     pub fn good(self) -> bool
@@ -93,17 +107,20 @@ impl Settings {
                                         & ((1 <= self.capacity) & (self.capacity <= 504)))))))))
     }
 
-    // The product of two numbers of 32 bits and a third fit 64 bits.
-    pub fn hash(self, x: u32) -> u32
-        requires { ⌜ 0 < self .p ⌝ }
+    // The product of two numbers of 32 bits and a third fit 64 bits: so does the hash where p is 0,
+    // which takes nothing off.
+    pub fn hash(self, x: u32) -> u64
         ensures { λ r. ⌜ r ≡ hash self x ⌝ }
     {
         let a = wide(self.a);
         let b = wide(self.b);
         let p = wide(self.p);
         let y = wide(x);
-        let h = (a * y + b) % p;
-        h as u32
+        let whole = a * y + b;
+        if p == 0 {
+            return whole;
+        }
+        whole % p
     }
 
     // For the hashes of many cells.
@@ -129,10 +146,9 @@ impl Settings {
     }
 
     pub fn passes(self, level: u32, x: u32) -> bool
-        requires { ⌜ 0 < self .p ⌝ }
         ensures { λ r. ⌜ r ≡ passes self level x ⌝ }
     {
-        self.hash(x) < self.region(level)
+        self.hash(x) < wide(self.region(level))
     }
 
     // The top: the place of the highest bit of p that is set.
@@ -146,12 +162,11 @@ impl Settings {
         31 - u32::leading_zeros(p)
     }
 
-    // Is the level no higher than the top? Just then its region isn't empty.
+    // Is the level no higher than the top?
     pub fn has_level(self, level: u32) -> bool
-        requires { ⌜ 0 < self .p ⌝ }
         ensures { λ r. ⌜ r ≡ leb level (top self) ⌝ }
     {
-        1 <= self.region(level)
+        level <= self.top()
     }
 }
 

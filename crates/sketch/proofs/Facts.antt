@@ -13,12 +13,12 @@ use lib.Dec.{leb, eqb}
 use lib.ListN.{length, take, drop, replicate, length-append, length-drop, length-replicate, take-append-drop}
 use lib.Seq.{take-append-seam, drop-append-seam, length-take-le}
 use borrow.Author.Tests.{leb-true, le-leb, lt-leb, eqb-true, eq-eqb}
+use Rattle.lists.specs.Rows.{pad, allZero}
+use Rattle.lists.proofs.Tests.{tested}
+use Rattle.lists.proofs.Places.{zero-facts, zeros-zero}
 use Rattle.rule.specs.declared.Settings.{Settings}
 use Rattle.rule.specs.Rule.{isGood, top}
-use Rattle.rule.specs.Rows.{pad, allZero}
 use Rattle.rule.proofs.Facts.{each, good-facts, facts-good}
-use Rattle.rule.proofs.Lists.{tested}
-use Rattle.rule.proofs.Places.{zero-facts, zeros-zero}
 use Rattle.rows.specs.Walked.{risesFrom}
 use Rattle.rows.proofs.Facts.{rises-facts, facts-rises}
 use Rattle.sketch.specs.declared.Sketch.{Sketch}
@@ -30,13 +30,15 @@ pub count-is : (k : Sketch) → k .count ≤ length (k .cells) → length (cells
 unfolding cellsOf
 count-is k h = length-take-le (k .count) (k .cells) h
 
-made-of : (k : Sketch) → k .count ≤ 504 → length (k .cells) ≡ 504 → allZero (drop (k .count) (k .cells)) ≡ true → k ≡ sketchAt (k .settings) (k .level) (cellsOf k)
+made-of : (k : Sketch) → k .count ≤ 504 → length (k .cells) ≡ 504 → allZero (drop (k .count) (k .cells)) ≡ true
+    → k ≡ sketchAt (k .settings) (k .level) (cellsOf k)
 unfolding sketchAt cellsOf
 made-of k few len z =
     let n : length (take (k .count) (k .cells)) ≡ k .count = length-take-le (k .count) (k .cells) (omega arith) in
     let d : length (drop (k .count) (k .cells)) ≡ 504 - length (take (k .count) (k .cells)) = length-drop (k .count) (k .cells) ∙ omega arith in
     let e : k .cells ≡ pad 504 (take (k .count) (k .cells)) =
-    sym (take-append-drop (k .count) (k .cells)) ∙ ap (λ (l : List ℕ). take (k .count) (k .cells) ++ l) (zero-facts (drop (k .count) (k .cells)) z ∙ ap (λ (m : ℕ). replicate m 0) d) in
+    sym (take-append-drop (k .count) (k .cells))
+    ∙ ap (λ (l : List ℕ). take (k .count) (k .cells) ++ l) (zero-facts (drop (k .count) (k .cells)) z ∙ ap (λ (m : ℕ). replicate m 0) d) in
     ap (λ (m : ℕ). record { settings = k .settings; level = k .level; count = m; cells = k .cells }) (sym n)
     ∙ ap (λ (l : List ℕ). record { settings = k .settings; level = k .level; count = length (take (k .count) (k .cells)); cells = l }) e
 
@@ -60,7 +62,8 @@ sketch-facts k e =
 
 -- the tests of a made sketch
 made-tests : (s : Settings) (level : ℕ) (xs : List ℕ) → length xs ≤ 504
-    → (cellsOf (sketchAt s level xs) ≡ xs) × (allZero (drop (sketchAt s level xs .count) (sketchAt s level xs .cells)) ≡ true) × (length (sketchAt s level xs .cells) ≡ 504)
+    → (cellsOf (sketchAt s level xs) ≡ xs) × (allZero (drop (sketchAt s level xs .count) (sketchAt s level xs .cells)) ≡ true) ×
+    (length (sketchAt s level xs .cells) ≡ 504)
 unfolding sketchAt cellsOf
 made-tests s level xs few = (
   take-append-seam xs (replicate (504 - length xs) 0),
@@ -98,7 +101,8 @@ same-facts s t e =
     ∙ ap (λ (v : ℕ). record { n = t .n; p = t .p; a = t .a; b = t .b; capacity = v }) (eqb-true _ _ (k .1))
 
 pub facts-same : (s : Settings) → sameSettings s s ≡ true
-facts-same s = simp (eq-eqb (s .n) (s .n) refl, eq-eqb (s .p) (s .p) refl, eq-eqb (s .a) (s .a) refl, eq-eqb (s .b) (s .b) refl, eq-eqb (s .capacity) (s .capacity) refl)
+facts-same s =
+    simp (eq-eqb (s .n) (s .n) refl, eq-eqb (s .p) (s .p) refl, eq-eqb (s .a) (s .a) refl, eq-eqb (s .b) (s .b) refl, eq-eqb (s .capacity) (s .capacity) refl)
 
 pub count-few : (k : Sketch) → Sound k → k .count ≤ 504
 count-few k w = omega (arith, made-count k (w .made), w .few, w .settings .capacity-high)
@@ -112,7 +116,8 @@ pub too-many : (k : Sketch) → 504 < k .count → false ≡ isSketch k
 unfolding isSketch
 too-many k h =
     ⊎-elim
-    (λ (g : isGood (k .settings) ≡ true). rw (lt-leb (k .count) (k .settings .capacity) (omega (arith, good-facts (k .settings) g .capacity-high)), and-false, and-false))
+    (λ (g : isGood (k .settings) ≡ true).
+    rw (lt-leb (k .count) (k .settings .capacity) (omega (arith, good-facts (k .settings) g .capacity-high)), and-false, and-false))
     (λ (g : isGood (k .settings) ≡ false). bad-settings k g)
     (tested (isGood (k .settings)))
 

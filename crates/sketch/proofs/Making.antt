@@ -13,12 +13,17 @@ use Prim.Native.Nat.{ℕ, suc, _-_, _≤_, max}
 use native.Mathlib.Omega.{arith}
 use lib.ListN.{length, replicate}
 use lib.Seq.{take-append-seam}
+use Rattle.lists.specs.Lists.{listed, range, Rising}
+use Rattle.lists.proofs.Tests.{tested}
+use Rattle.lists.proofs.Filters.{filter-same}
+use Rattle.lists.proofs.Runs.{filter-listed}
 use Rattle.rule.specs.declared.Settings.{Settings}
-use Rattle.rule.specs.Cells.{Cells, noCells, _∪_, interval, listed, range, Rising}
+use Rattle.rule.specs.Cells.{Cells, noCells, _∪_, interval}
 use Rattle.rule.specs.Rule.{Good, passes, top}
 use Rattle.rule.specs.Samples.{passing, sample, lowest}
-use Rattle.rule.proofs.Lists.{tested, filter-same, filter-listed}
-use Rattle.rule.proofs.Samples.{Agree, agree-refl, agree-higher, agree-union, inside-left, inside-right, sample-agree, sample-same, sample-none, sample-rises, sample-passes, few-fits, fits-few, fits-none, lowest-from, lowest-top, lowest-fits, lowest-now, lowest-same, lowest-more, lowest-up}
+use Rattle.rule.proofs.Samples.{Agree, agree-refl, agree-higher, agree-union, inside-left, inside-right, sample-agree, sample-same, sample-none}
+use Rattle.rule.proofs.Samples.{sample-rises, sample-passes, few-fits, fits-few, fits-none, lowest-from, lowest-top, lowest-fits, lowest-now}
+use Rattle.rule.proofs.Samples.{lowest-same, lowest-more, lowest-up}
 use Rattle.sketch.specs.declared.Sketch.{Sketch}
 use Rattle.sketch.specs.Sketches.{sketchAt, cellsOf, sketchFrom, opened, add, merge, Sound}
 
@@ -62,7 +67,8 @@ add-law s g X i lo hi h =
     ∙ from-up s g (X ∪ interval lo hi) i m (lowest-from s X i) (lowest-top s X i h)
     (lowest-more s g X (X ∪ interval lo hi) i i (omega arith) h (inside-left X (interval lo hi)))
 
-pub merge-law : (s : Settings) → Good s → (X Y : Cells) (i j : ℕ) → i ≤ top s → j ≤ top s → merge (sketchFrom s X i) (sketchFrom s Y j) ≡ sketchFrom s (X ∪ Y) (max i j)
+pub merge-law : (s : Settings) → Good s → (X Y : Cells) (i j : ℕ) → i ≤ top s → j ≤ top s
+    → merge (sketchFrom s X i) (sketchFrom s Y j) ≡ sketchFrom s (X ∪ Y) (max i j)
 unfolding merge sketchFrom sketchAt
 merge-law s g X Y i j hi hj =
     let u = lowest s X i in
@@ -77,8 +83,11 @@ merge-law s g X Y i j hi hj =
     ∙ from-up s g (X ∪ Y) (max i j) m
     (omega (arith, lowest-from s X i, lowest-from s Y j))
     (omega (arith, lowest-top s X i hi, lowest-top s Y j hj))
-    (omega
-    (arith, lowest-more s g X (X ∪ Y) i (max i j) (omega arith) (omega arith) (inside-left X Y), lowest-more s g Y (X ∪ Y) j (max i j) (omega arith) (omega arith) (inside-right X Y)))
+    (omega (
+      arith,
+      lowest-more s g X (X ∪ Y) i (max i j) (omega arith) (omega arith) (inside-left X Y),
+      lowest-more s g Y (X ∪ Y) j (max i j) (omega arith) (omega arith) (inside-right X Y),
+    ))
 
 pub sound : (s : Settings) → Good s → (X : Cells) (i : ℕ) → i ≤ top s → Sound (sketchFrom s X i)
 unfolding sketchFrom sketchAt
@@ -150,5 +159,6 @@ merge-regroups s g i j k ei ej ek wi wj wk =
     let a : i ≡ sketchFrom s (listed (cellsOf i)) (i .level) = own s i ei wi in
     let b : j ≡ sketchFrom s (listed (cellsOf j)) (j .level) = own s j ej wj in
     let c : k ≡ sketchFrom s (listed (cellsOf k)) (k .level) = own s k ek wk in
-    let m = merge-three s g (listed (cellsOf i)) (listed (cellsOf j)) (listed (cellsOf k)) (i .level) (j .level) (k .level) (own-low s i ei wi) (own-low s j ej wj) (own-low s k ek wk) in
+    let m = merge-three s g (listed (cellsOf i)) (listed (cellsOf j)) (listed (cellsOf k)) (i .level) (j .level) (k .level) (own-low s i ei wi)
+    (own-low s j ej wj) (own-low s k ek wk) in
     cc m

@@ -9,9 +9,10 @@ use mathlib.Core.Bool.{true}
 use mathlib.Core.List.{[]}
 use Prim.Native.Nat.{ℕ, _≤_, max}
 use native.Mathlib.Omega.{arith}
+use Rattle.lists.specs.Lists.{listed}
 use Rattle.rule.specs.declared.Settings.{Settings}
 use Rattle.rule.specs.declared.answers.Answer.{Answer}
-use Rattle.rule.specs.Cells.{noCells, _∪_, interval, listed}
+use Rattle.rule.specs.Cells.{noCells, _∪_, interval}
 use Rattle.rule.specs.Rule.{isGood, top}
 use Rattle.rule.specs.Refusals.{Paper, answered}
 use Rattle.rule.proofs.Facts.{good-facts}
@@ -22,6 +23,7 @@ use Rattle.sketch.specs.declared.estimates.Estimate.{Estimate}
 use Rattle.sketch.specs.Sketches.{isSketch, cellsOf, opened, add, merge}
 use Rattle.sketch.specs.Calls.{mergeOn, sameSettings, Hands}
 use Rattle.sketch.specs.Estimates.{Estimates}
+use Rattle.sketch.proofs.Worth.{estimate-one}
 use Rattle.sketch.proofs.Facts.{sketch-facts, facts-sketch, same-facts, facts-same}
 use Rattle.sketch.proofs.Making.{open-law, sound, merge-self}
 use Rattle.sketch.proofs.Handing.{merge-both}
@@ -52,4 +54,4 @@ hands-tight paper next old x y e f =
     ∙ ap (λ (k : Sketch). record { answer = y .answer; sketch = k }) (e .sketch ∙ sym (f .sketch))
 
 pub estimate-tight : (k : Sketch) (x y : Estimate) → Estimates k x → Estimates k y → x ≡ y
-estimate-tight k x y e f = e .is ∙ sym (f .is)
+estimate-tight k x y e f = estimate-one x y (e .answer ∙ sym (f .answer))

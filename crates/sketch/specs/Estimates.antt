@@ -1,42 +1,54 @@
--- What the estimate answers, and what it is worth. Assumes nothing: these are definitions.
+-- What the estimate tells, and what it is worth. Assumes nothing: these are definitions.
 use Prim.Native.Nat.{ℕ, _*_, _^_}
 use mathlib.Core.Path.{_≡_}
-use mathlib.Core.Bool.{Bool, true, false}
+use mathlib.Core.Bool.{false, cond}
 use lib.Dec.{eqb}
 use lib.IntN.{pos}
-use lib.Ieee.{binary64, ofInt}
+use lib.Ieee.{Float, binary64, ofInt}
 use lib.Ieee.Exact.{HasValue}
-use Rattle.rule.specs.Refusals.{notOne}
+use Rattle.rule.specs.Refusals.{Outcome, answered, refused, unless, notOne}
 use Rattle.sketch.specs.declared.Sketch.{Sketch}
 use Rattle.sketch.specs.declared.estimates.Estimate.{Estimate}
 use Rattle.sketch.specs.declared.estimates.Estimate.the-variants.{Exact, About, Refused}
 use Rattle.sketch.specs.Sketches.{isSketch}
 
--- how many cells a sketch stands for: the number of cells times 2^level
+-- what an estimate tells: so many cells exactly, or about as many as a float says
+pub data Weight : Type 0 where
+  exactly : ℕ → Weight
+  about : Float → Weight
+
+-- each case of the estimate's enum; the promise is put through this
+abbrev pub ofEstimate : Estimate → Outcome Weight
+ofEstimate (Exact v) = answered (exactly v)
+ofEstimate (About x) = answered (about x)
+ofEstimate (Refused number) = refused number 0
+
+-- how many cells so many kept at a level stand for: their number times 2^level
+unfoldable pub standsAt : ℕ → ℕ → ℕ
+standsAt level count = count * 2 ^ level
+
 abbrev pub standsFor : Sketch → ℕ
-standsFor k = k .count * 2 ^ k .level
+standsFor k = standsAt (k .level) (k .count)
 
-abbrev pub pick : Bool → Estimate → Estimate → Estimate
-pick true this other = this
-pick false this other = other
+-- that number as a float
+abbrev pub floatFor : Sketch → Float
+floatFor k = ofInt binary64 (pos (standsFor k))
 
--- at level 0 exact; above it the float of that number; 4 where it isn't a sketch
-unfoldable pub estimateOf : Sketch → Estimate
-estimateOf k = pick (isSketch k) (pick (eqb (k .level) 0) (Exact (k .count)) (About (ofInt binary64 (pos (standsFor k))))) (Refused notOne)
+-- at level 0 exactly the number of cells; above it about that float
+abbrev pub weightOf : Sketch → Weight
+weightOf k = cond (eqb (k .level) 0) (exactly (k .count)) (about (floatFor k))
 
--- the number of an answer's refusal, 0 where there is none
-abbrev pub refusalOf : Estimate → ℕ
-refusalOf (Exact v) = 0
-refusalOf (About x) = 0
-refusalOf (Refused number) = number
+-- 4 where it isn't a sketch (RULES: Estimate)
+unfoldable pub estimateOn : Sketch → Outcome Weight
+estimateOn k = unless (isSketch k) notOne (answered (weightOf k))
 
--- an answer is worth the number m: the whole number is m, or the float denotes m with nothing lost
-abbrev pub worth : Estimate → ℕ → Type 0
-worth (Exact v) m = v ≡ m
-worth (About x) m = HasValue x false m 1
-worth (Refused number) m = Unit
+-- what is told is worth the number m: the whole number is m, or the float denotes m with nothing lost
+abbrev pub Worth : Outcome Weight → ℕ → Type 0
+Worth (answered (exactly v)) m = v ≡ m
+Worth (answered (about x)) m = HasValue x false m 1
+Worth (refused number place) m = Unit
 
 -- what the estimate promises
 pub record Estimates (k : Sketch) (r : Estimate) : Type 0 where
-  pub is : r ≡ estimateOf k
-  pub value : worth r (standsFor k)
+  pub answer : ofEstimate r ≡ estimateOn k
+  pub value : Worth (ofEstimate r) (standsFor k)

@@ -2,4 +2,5 @@
 pub mod Sketches
 pub mod Settling
 pub mod Calls
+pub mod Trying
 pub mod Estimates

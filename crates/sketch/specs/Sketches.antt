@@ -5,10 +5,11 @@ use mathlib.Core.Bool.{Bool, true}
 use mathlib.Core.List.{List, [], _∷_}
 use lib.Dec.{leb, eqb}
 use lib.ListN.{length, take, drop}
+use Rattle.lists.specs.Lists.{listed, Rising}
+use Rattle.lists.specs.Rows.{pad, allZero}
 use Rattle.rule.specs.declared.Settings.{Settings}
-use Rattle.rule.specs.Cells.{Cells, _∪_, interval, listed, Rising}
+use Rattle.rule.specs.Cells.{Cells, _∪_, interval}
 use Rattle.rule.specs.Rule.{Good, isGood, passes, top, all}
-use Rattle.rule.specs.Rows.{pad, allZero}
 use Rattle.rule.specs.Samples.{sample, lowest}
 use Rattle.rows.specs.Walked.{risesFrom}
 use Rattle.sketch.specs.declared.Sketch.{Sketch}
@@ -25,7 +26,7 @@ sketchAt s level xs = held s level (length xs) (pad 504 xs)
 unfoldable pub cellsOf : Sketch → List ℕ
 cellsOf k = take (k .count) (k .cells)
 
--- what a sketch is
+-- what a sketch is (RULES: Sketch)
 pub record Sound (k : Sketch) : Type 0 where
   pub settings : Good (k .settings)
   pub level : k .level ≤ top (k .settings)
@@ -51,14 +52,14 @@ isSketch k = all (parts k)
 unfoldable pub sketchFrom : Settings → Cells → ℕ → Sketch
 sketchFrom s X here = sketchAt s (lowest s X here) (sample s X (lowest s X here))
 
--- opening: level 0, no cells
+-- opening: level 0, no cells (RULES: Open)
 unfoldable pub opened : Settings → Sketch
 opened s = sketchAt s 0 []
 
--- adding lo..hi: the kept cells together with lo..hi, not below the present level
+-- adding lo..hi: the kept cells together with lo..hi, not below the present level (RULES: Add)
 unfoldable pub add : Sketch → ℕ → ℕ → Sketch
 add k lo hi = sketchFrom (k .settings) (listed (cellsOf k) ∪ interval lo hi) (k .level)
 
--- merging: the kept cells of both, from the higher of the two levels; they have the same settings
+-- merging: the kept cells of both, from the higher of the two levels; they have the same settings (RULES: Merge)
 unfoldable pub merge : Sketch → Sketch → Sketch
 merge j k = sketchFrom (j .settings) (listed (cellsOf j) ∪ listed (cellsOf k)) (max (j .level) (k .level))

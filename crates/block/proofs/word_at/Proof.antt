@@ -29,7 +29,7 @@ add-result c = search needs
 returns : tie.Need-returns
 returns c =
     let a = c .before .before .before .before .before .args in
-    (omega (arith, number-two (a .at) (a .s .now)), omega arith)
+    (omega (arith, number-two (a .at) (a .s .now)), omega arith, λ i. omega (arith, c .before .shared-slice-known3 .given i))
 
 pub word-at-spec : {M : Type 1} → statement M
 word-at-spec =

@@ -6,15 +6,16 @@ use native.Mathlib.Omega.{arith}
 use lib.ListN.{length, take}
 use lib.Seq.{length-take-le, take-all}
 use Rattle.evening.specs.Runs.{Sitting, fed}
+use Rattle.console.specs.Serving.{served}
 use Rattle.evening.proofs.Pieces.{feeds-room, feeds-some, feeds-within, feeds-sits, feeds-more, piece-length}
 use Rattle.console.proofs.serve_piece.Statement.{statement}
 use Rattle.console.proofs.serve_piece.Tie as tie
 
 abbrev Inv-loop : tie.InvT-loop
-Inv-loop input out₀ s₀ at₀ out s at = (at ≤ length input) × (s ≡ fed s₀ (take at input) .evening) × (length out ≡ length out₀) × Sitting s
+Inv-loop evening input out₀ s₀ at₀ out s at = (at ≤ length input) × (s ≡ fed s₀ (take at input) .evening) × (length out ≡ length out₀) × Sitting s
 
 abbrev μ-loop : tie.MeasureT-loop
-μ-loop input out₀ s₀ at₀ out s at = length input - at
+μ-loop evening input out₀ s₀ at₀ out s at = length input - at
 
 loop-holds : tie.Need-loop-holds Inv-loop μ-loop
 unfolding fed
@@ -41,24 +42,37 @@ slice-aggregate-write-all c = sym (length-take-le _ _ (feeds-room (c .before .be
 write-all-requires : tie.Need-write-all-requires Inv-loop μ-loop
 write-all-requires c κs = tt
 
+same-length : tie.Need-same-length Inv-loop μ-loop
+same-length c = search needs
+
+returns : tie.Need-returns Inv-loop μ-loop
+unfolding served
+returns c = refl
+
 add-at : tie.Need-add-at Inv-loop μ-loop
 add-at c =
-    let f = c .before .before .before .before .before in
+    let f = c .before .before .before .before .before .before in
     let s = f .before .before .before .before in
     let a = s .before .before .before .args in
     omega (arith, feeds-within (f .feed .ensures), piece-length (a .input .now) (s .loop .at), s .loop .inv .0)
 
 loop-less : tie.Need-loop-less Inv-loop μ-loop
 loop-less c =
-    let f = c .before .before .before .before .before .before in
+    let f = c .before .before .before .before .before .before .before in
     let s = f .before .before .before .before in
     let a = s .before .before .before .args in
     let p = piece-length (a .input .now) (s .loop .at) in
-    omega (arith, feeds-within (f .feed .ensures), feeds-some (f .feed .ensures) (omega (arith, s .loop .inv .2, s .before .before .before .pre .1)) (omega (arith, p)), p)
+    omega (
+      arith,
+      feeds-within (f .feed .ensures),
+      feeds-some (f .feed .ensures) (omega (arith, s .loop .inv .2, s .before .before .before .pre .1))
+          (omega (arith, p)),
+      p,
+    )
 
 loop-again : tie.Need-loop-again Inv-loop μ-loop
 loop-again c =
-    let f = c .before .before .before .before .before .before in
+    let f = c .before .before .before .before .before .before .before in
     let s = f .before .before .before .before in
     let a = s .before .before .before .args in (
       omega (arith, feeds-within (f .feed .ensures), piece-length (a .input .now) (s .loop .at), s .loop .inv .0),
@@ -67,11 +81,12 @@ loop-again c =
       feeds-sits (f .feed .ensures) (s .loop .inv .3),
     )
 
-same-length : tie.Need-same-length Inv-loop μ-loop
-same-length c = c .before .loop .inv .2
+same-length-2 : tie.Need-same-length-2 Inv-loop μ-loop
+same-length-2 c = c .before .loop .inv .2
 
-returns : tie.Need-returns Inv-loop μ-loop
-returns c =
+returns-2 : tie.Need-returns-2 Inv-loop μ-loop
+unfolding served
+returns-2 c =
     let s = c .before in
     let a = s .before .before .before .args in
     s .loop .inv .1 ∙ ap (λ l. fed (a .evening) l .evening) (take-all (s .loop .at) (a .input .now) (omega arith))
@@ -90,8 +105,10 @@ serve-piece-spec =
     slice-reshare-prefix-write-all
     slice-aggregate-write-all
     write-all-requires
+    same-length
+    returns
     add-at
     loop-less
     loop-again
-    same-length
-    returns)
+    same-length-2
+    returns-2)

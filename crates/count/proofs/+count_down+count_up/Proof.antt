@@ -1,4 +1,5 @@
--- The proof of the cycle of calls {count_down, count_up}. Each one's measure is its difference d: each call is on modulus d, with a difference of at most half of d.
+-- The proof of the cycle of calls {count_down, count_up}. Each one's measure is its difference d: each call is on modulus d, with a difference of at most
+-- half of d.
 -- Assumes nothing.
 use borrow.Author.Needs.{needs}
 use mathlib.Core.Path.{sym, ap, subst, _∙_}
@@ -46,10 +47,32 @@ count-up-below t =
 
 -- what the functions that `count_down` and `count_up` call ask and give
 abbrev count-down-calls : ℕ → count-down-lts.Claims
-count-down-calls t = (still-reads.Asked, still-reads.Learnt, end-reads.Asked, end-reads.Learnt, cut-reads.Asked, cut-reads.Learnt, count-down-below t, count-down.Post, count-up-below t, count-up.Post)
+count-down-calls t = (
+  still-reads.Asked,
+  still-reads.Learnt,
+  end-reads.Asked,
+  end-reads.Learnt,
+  cut-reads.Asked,
+  cut-reads.Learnt,
+  count-down-below t,
+  count-down.Post,
+  count-up-below t,
+  count-up.Post,
+)
 
 abbrev count-up-calls : ℕ → count-up-lts.Claims
-count-up-calls t = (still-reads.Asked, still-reads.Learnt, end-reads.Asked, end-reads.Learnt, cut-reads.Asked, cut-reads.Learnt, count-down-below t, count-down.Post, count-up-below t, count-up.Post)
+count-up-calls t = (
+  still-reads.Asked,
+  still-reads.Learnt,
+  end-reads.Asked,
+  end-reads.Learnt,
+  cut-reads.Asked,
+  cut-reads.Learnt,
+  count-down-below t,
+  count-down.Post,
+  count-up-below t,
+  count-up.Post,
+)
 
 -- what `count_down` knows of the rounds, and what it adds up
 count-down-reached : (t : ℕ) (c : count-down-lts.After-cut (count-down-calls t) (count-down-at t) count-down.Post)
@@ -74,7 +97,8 @@ count-down-adds t c =
     let r = count-down-reached t (c .before .before) in
     let a = c .before .before .before .before .before .before .args in
     let e = c .before .before .before .end in
-    subst (λ (h : ℕ). Adds h (c .before .before .cut .result) (c .if3 .low)) (sym (turned a.m a.d a.u a.n a.l (e .result) (omega arith) (omega arith) (e .ensures)))
+    subst (λ (h : ℕ). Adds h (c .before .before .cut .result) (c .if3 .low))
+    (sym (turned a.m a.d a.u a.n a.l (e .result) (omega arith) (omega arith) (e .ensures)))
     (counted r _
     (⊎-elim
     (λ w. low-none r _ (w .0 .taken) (w .1))

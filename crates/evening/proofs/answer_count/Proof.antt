@@ -41,7 +41,8 @@ returns-2 c =
     let k = c .before .before in
     let a = k .before .before .before in
     let n = a .before .before in
-    tells-as (count-said _ _ _ _ (not-false _ (n .before .if1 .left)) _ (sym (n .count .ensures) ∙ ap ofCounted (a .counted .given .1))) (says-tells _ (k .put-count .ensures))
+    let told = sym (n .count .ensures) ∙ ap ofCounted (a .counted .given .1) in
+    tells-as (count-said _ _ _ _ (not-false _ (n .before .if1 .left)) _ told) (says-tells _ (k .put-count .ensures))
 
 same-length-3 : tie.Need-same-length-3
 same-length-3 c = search needs
@@ -51,7 +52,8 @@ returns-3 c =
     let k = c .before .before in
     let a = k .before .before .before in
     let n = a .before .before in
-    tells-as (count-refused _ _ _ _ (not-false _ (n .before .if1 .left)) _ (sym (n .count .ensures) ∙ ap ofCounted (a .counted2 .given .1))) (k .refuse2 .ensures)
+    let told = sym (n .count .ensures) ∙ ap ofCounted (a .counted2 .given .1) in
+    tells-as (count-refused _ _ _ _ (not-false _ (n .before .if1 .left)) _ told) (k .refuse2 .ensures)
 
 pub answer-count-spec : {M : Type 1} → statement M
 answer-count-spec =

@@ -48,7 +48,8 @@ returns-2 c =
     let k = c .before .before in
     let a = k .before .before .before in
     let n = a .before .before in
-    tells-as (next-said _ _ _ (not-false _ (n .before .if1 .left)) (_ ∷ []) (sym (n .next-hit .ensures) ∙ ap ofFound (a .found .given .1))) (says-tells _ (k .put-cell .ensures))
+    let told = sym (n .next-hit .ensures) ∙ ap ofFound (a .found .given .1) in
+    tells-as (next-said _ _ _ (not-false _ (n .before .if1 .left)) (_ ∷ []) told) (says-tells _ (k .put-cell .ensures))
 
 same-length-3 : tie.Need-same-length-3
 same-length-3 c = search needs
@@ -58,7 +59,8 @@ returns-3 c =
     let k = c .before .before in
     let a = k .before .before in
     let n = a .before .before in
-    tells-as (next-said _ _ _ (not-false _ (n .before .if1 .left)) [] (sym (n .next-hit .ensures) ∙ ap ofFound (a .enum-told .given .1))) (says-tells _ (k .put-none .ensures))
+    let told = sym (n .next-hit .ensures) ∙ ap ofFound (a .enum-told .given .1) in
+    tells-as (next-said _ _ _ (not-false _ (n .before .if1 .left)) [] told) (says-tells _ (k .put-none .ensures))
 
 same-length-4 : tie.Need-same-length-4
 same-length-4 c = search needs

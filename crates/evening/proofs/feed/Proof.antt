@@ -6,22 +6,27 @@ use native.Mathlib.Omega.{arith}
 use lib.ListN.{length, length-set}
 use borrow.Author.Tests.{leb-true, leb-false}
 use lib.Seq.{length-take-le}
+use Rattle.evening.specs.declared.Evening.{Evening}
 use Rattle.evening.proofs.Feeding.{Feeding, feeding-start, feeding-line, feeding-noted, feeding-long, feeding-done, feeding-full}
 use Rattle.evening.proofs.feed.Statement.{statement}
 use Rattle.evening.proofs.feed.Tie as tie
 
 abbrev Inv-loop : tie.InvT-loop
 Inv-loop input out₀ pot₀ size₀ line₀ room written₀ taken₀ out pot size line written taken =
-    Feeding (record { pot = pot₀; length = size₀; line = line₀ }) input out₀ (record { pot = pot; length = size; line = line }) taken out written × (room ≡ length out₀) × (length line ≡ 65)
+    let s₀ : Evening = record { pot = pot₀; length = size₀; line = line₀ } in
+    let s : Evening = record { pot = pot; length = size; line = line } in
+    Feeding s₀ input out₀ s taken out written × (room ≡ length out₀) × (length line ≡ 65)
 
 abbrev μ-loop : tie.MeasureT-loop
 μ-loop input out₀ pot₀ size₀ line₀ room written₀ taken₀ out pot size line written taken = length input - taken
 
 -- there is room for an answer, or there might not be
-roomy : (c : tie.Then1 Inv-loop μ-loop) → 40 ≤ length (c .before .before .before .before .before .before .before .args .out .now) - c .before .before .loop .written
+roomy : (c : tie.Then1 Inv-loop μ-loop)
+    → 40 ≤ length (c .before .before .before .before .before .before .before .args .out .now) - c .before .before .loop .written
 roomy c = leb-true 40 (length (c .before .before .before .before .before .before .before .args .out .now) - c .before .before .loop .written) (c .if1 .taken)
 
-full : (c : tie.Else1 Inv-loop μ-loop) → length (c .before .before .before .before .before .before .before .args .out .now) - c .before .before .loop .written < 40
+full : (c : tie.Else1 Inv-loop μ-loop)
+    → length (c .before .before .before .before .before .before .before .args .out .now) - c .before .before .loop .written < 40
 full c = leb-false 40 (length (c .before .before .before .before .before .before .before .args .out .now) - c .before .before .loop .written) (c .if1 .left)
 
 loop-holds : tie.Need-loop-holds Inv-loop μ-loop
@@ -61,7 +66,11 @@ loop-again c =
     let a = c .before .before .before in
     let two = a .before .before .before in
     let s = two .before .before .before .before in
-    (feeding-line (s .loop .inv .0) (omega arith) (omega (arith, s .loop .inv .1, roomy (two .before .before))) (two .if2 .taken) _ _ (a .answer .ensures) (search needs), s .loop .inv .1, s .loop .inv .2)
+    let r = roomy (two .before .before) in (
+      feeding-line (s .loop .inv .0) (omega arith) (omega (arith, s .loop .inv .1, r)) (two .if2 .taken) _ _ (a .answer .ensures) (search needs),
+      s .loop .inv .1,
+      s .loop .inv .2,
+    )
 
 array-write-line : tie.Need-array-write-line Inv-loop μ-loop
 array-write-line c =
@@ -77,7 +86,11 @@ loop-less-2 c = omega arith
 loop-again-2 : tie.Need-loop-again-2 Inv-loop μ-loop
 loop-again-2 c =
     let s = c .before .before .before .before .before in
-    (feeding-noted (s .loop .inv .0) (omega arith) (omega (arith, s .loop .inv .1, roomy (c .before .before .before))) (c .before .if2 .left) (c .if3 .taken), s .loop .inv .1, simp length-set (s .loop .inv .2))
+    let r = roomy (c .before .before .before) in (
+      feeding-noted (s .loop .inv .0) (omega arith) (omega (arith, s .loop .inv .1, r)) (c .before .if2 .left) (c .if3 .taken),
+      s .loop .inv .1,
+      simp length-set (s .loop .inv .2),
+    )
 
 loop-less-3 : tie.Need-loop-less-3 Inv-loop μ-loop
 loop-less-3 c = omega arith
@@ -85,7 +98,11 @@ loop-less-3 c = omega arith
 loop-again-3 : tie.Need-loop-again-3 Inv-loop μ-loop
 loop-again-3 c =
     let s = c .before .before .before .before .before in
-    (feeding-long (s .loop .inv .0) (omega arith) (omega (arith, s .loop .inv .1, roomy (c .before .before .before))) (c .before .if2 .left) (omega arith), s .loop .inv .1, s .loop .inv .2)
+    let r = roomy (c .before .before .before) in (
+      feeding-long (s .loop .inv .0) (omega arith) (omega (arith, s .loop .inv .1, r)) (c .before .if2 .left) (omega arith),
+      s .loop .inv .1,
+      s .loop .inv .2,
+    )
 
 same-length : tie.Need-same-length Inv-loop μ-loop
 same-length c = c .before .before .loop .inv .0 .same

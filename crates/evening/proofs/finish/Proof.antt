@@ -3,7 +3,7 @@ use mathlib.Core.Path.{_≡_, sym}
 use native.Mathlib.Omega.{arith}
 use lib.ListN.{length}
 use lib.Seq.{length-take-le}
-use Rattle.evening.proofs.Replying.{stored-as}
+use Rattle.lists.proofs.Stores.{stored-as}
 use Rattle.evening.proofs.Feeding.{rest-none, rest-line}
 use borrow.Author.Needs.{needs}
 use Rattle.evening.proofs.finish.Statement.{statement}
@@ -33,7 +33,7 @@ same-length c = search needs
 returns-2 : tie.Need-returns-2
 returns-2 c =
     let a = c .before .before in
-    stored-as (rest-line _ (a .before .before .before .before .if1 .left)) (a .answer .ensures .stored)
+    stored-as (a .answer .ensures .stored) (rest-line _ (a .before .before .before .before .if1 .left))
 
 pub finish-spec : {M : Type 1} → statement M
 finish-spec =

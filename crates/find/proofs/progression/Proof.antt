@@ -16,23 +16,20 @@ hash-requires c κs = search needs
 wide-requires-3 : tie.Need-wide-requires-3
 wide-requires-3 c κs = search needs
 
+add-t9 : tie.Need-add-t9
+add-t9 c = search needs
+
 wide-requires-4 : tie.Need-wide-requires-4
 wide-requires-4 c κs = search needs
 
-add-t10 : tie.Need-add-t10
-add-t10 c = search needs
-
-wide-requires-5 : tie.Need-wide-requires-5
-wide-requires-5 c κs = search needs
-
-sub-t12 : tie.Need-sub-t12
-sub-t12 c = search needs
+sub-t11 : tie.Need-sub-t11
+sub-t11 c = search needs
 
 region-requires : tie.Need-region-requires
 region-requires c κs = search needs
 
-wide-requires-6 : tie.Need-wide-requires-6
-wide-requires-6 c κs = search needs
+wide-requires-5 : tie.Need-wide-requires-5
+wide-requires-5 c κs = search needs
 
 returns : tie.Need-returns
 returns c =
@@ -52,10 +49,9 @@ progression-spec =
     wide-requires-2
     hash-requires
     wide-requires-3
+    add-t9
     wide-requires-4
-    add-t10
-    wide-requires-5
-    sub-t12
+    sub-t11
     region-requires
-    wide-requires-6
+    wide-requires-5
     returns)

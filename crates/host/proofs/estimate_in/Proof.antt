@@ -1,7 +1,7 @@
 -- `host::estimate_in` meets its contract. Assumes nothing.
 use mathlib.Core.Path.{ap, _∙_}
 use denote.Ref.{now}
-use Rattle.sketch.specs.Estimates.{estimateOf}
+use Rattle.sketch.specs.Estimates.{estimateOn}
 use Rattle.host.proofs.Crossings.{parts-in}
 use borrow.Author.Needs.{needs}
 use Rattle.host.proofs.estimate_in.Statement.{statement}
@@ -29,7 +29,9 @@ estimate-of-requires : tie.Need-estimate-of-requires
 estimate-of-requires c κs = search needs
 
 returns : tie.Need-returns
-returns c = c .estimate-of .ensures .is ∙ ap estimateOf (parts-in (now (c .before .before .before .before .before .before .args .row)) _ (c .before .before .before .before .settings-in .ensures))
+returns c =
+    c .estimate-of .ensures .answer ∙ ap estimateOn (parts-in (now (c .before .before .before .before .before .before .args .row)) _
+    (c .before .before .before .before .settings-in .ensures))
 
 pub estimate-in-spec : {M : Type 1} → statement M
 estimate-in-spec =

@@ -20,7 +20,10 @@ same-length : tie.Need-same-length
 same-length c = search needs
 
 returns : tie.Need-returns
-returns c = given (c .number-of .ensures, c .before .before .before .put-sketch .ensures) (rw (c .before .before .before .before .before .before .before .before .before .before .before .settings-in .ensures) at (c .before .before .before .before .before .before .before .before .before .before .open .ensures))
+returns c =
+    given (c .number-of .ensures, c .before .before .before .put-sketch .ensures)
+    (rw (c .before .before .before .before .before .before .before .before .before .before .before .settings-in .ensures) at
+    (c .before .before .before .before .before .before .before .before .before .before .open .ensures))
 
 pub open-in-spec : {M : Type 1} → statement M
 open-in-spec =

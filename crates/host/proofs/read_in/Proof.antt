@@ -4,7 +4,7 @@ use mathlib.Core.List.{List}
 use Prim.Native.Nat.{ℕ}
 use denote.Ref.{now}
 use Rattle.sketch.specs.Sketches.{held}
-use Rattle.host.specs.Crossing.{rowOf}
+use Rattle.host.specs.Crossing.{sketchRow}
 use Rattle.host.proofs.Crossings.{cells-lent}
 use borrow.Author.Needs.{needs}
 use Rattle.host.proofs.read_in.Statement.{statement}
@@ -33,7 +33,12 @@ returns c =
     let start = c .before .before .before .before .before .before .before .before .before .before .before in
     let h = c .before .before .before .before .before .before .before .read-into .result in
     let l = c .before .before .before .before .before .before .before .read-into .ensures in
-    record { answer = l .answer; row = c .before .before .put-head .ensures ∙ ap (λ (cells : List ℕ). rowOf (held (h .settings) (h .level) (h .count) cells)) (cells-lent (now (start .args .row)) _ (start .pre)) ∙ ap rowOf (l .sketch) }
+    record {
+      answer = l .answer;
+      row = c .before .before .put-head .ensures
+          ∙ ap (λ (cells : List ℕ). sketchRow (held (h .settings) (h .level) (h .count) cells)) (cells-lent (now (start .args .row)) _ (start .pre))
+          ∙ ap sketchRow (l .sketch);
+    }
 
 pub read-in-spec : {M : Type 1} → statement M
 read-in-spec =

@@ -18,14 +18,14 @@ enum-known-e-3 : tie.Need-enum-known-e-3
 enum-known-e-3 c = search needs
 
 returns : tie.Need-returns
-returns c = rw (c .before .before .e .given .1) (refl, refl)
+returns c = rw (c .before .before .e .given .1) (record { number = refl; exact = refl; value = refl })
 
 returns-2 : tie.Need-returns-2
 returns-2 c = search needs
 
 returns-3 : tie.Need-returns-3
 unfolding ofInt ofBits
-returns-3 c = rw (c .before .e3 .given .1) (refl, refl)
+returns-3 c = rw (c .before .e3 .given .1) (record { number = refl; exact = refl; value = refl })
 
 pub told-double-spec : {M : Type 1} → statement M
 told-double-spec =

@@ -1,8 +1,14 @@
 -- `image::read_into` meets its contract: a case for each refusal, in order. Assumes nothing.
-use mathlib.Core.Path.{sym, _∙_}
+use Prim.Native.Nat.{ℕ, _≤_}
+use mathlib.Core.Path.{_≡_, sym, _∙_}
+use mathlib.Core.Bool.{true}
+use mathlib.Core.List.{List}
+use lib.ListN.{length}
 use native.Mathlib.Omega.{arith}
 use borrow.Author.Tests.{not-true, not-false}
 use borrow.Author.Needs.{needs}
+use Rattle.image.specs.Shapes.{Blocks, blocksIn, firstWrong}
+use Rattle.image.specs.Calls.{rightLength}
 use Rattle.image.proofs.Answers.{length-facts, all-right, read-length, read-check, read-mark, read-on}
 use Rattle.image.proofs.read_into.Statement.{statement}
 use Rattle.image.proofs.read_into.Tie as tie
@@ -23,26 +29,26 @@ returns : tie.Need-returns
 returns c =
     let test = c .before in
     let cleared = test .before .before .before .before in
-    let start = cleared .before .before .before .before in
-    let s = start .args .bytes .now in
-    read-length s _ _ (cleared .clear-row .ensures) (sym (test .before .right-length .ensures) ∙ not-true _ (test .if1 .taken)) (c .refuse .ensures)
+    read-length _ _ _ (cleared .clear-row .ensures) (sym (test .before .right-length .ensures) ∙ not-true _ (test .if1 .taken)) (c .refuse .ensures)
+
+-- the length is right, and then the checks are
+abbrev bytes : tie.Else1 → List ℕ
+bytes c = c .before .before .before .before .before .before .before .before .args .bytes .now
+
+right : (c : tie.Else1) → rightLength (length (bytes c)) ≡ true
+right c = sym (c .before .right-length .ensures) ∙ not-false _ (c .if1 .left)
+
+whole : (c : tie.Else1) → Blocks (bytes c)
+whole c = length-facts (bytes c) (right c)
+
+good : (c : tie.Else2) → blocksIn (bytes (c .before .before)) ≤ firstWrong (bytes (c .before .before))
+good c = rw (c .before .first-wrong .ensures) at (c .if2 .left)
 
 first-wrong-requires : tie.Need-first-wrong-requires
-first-wrong-requires c κs =
-    let cleared = c .before .before .before .before in
-    let start = cleared .before .before .before .before in
-    let s = start .args .bytes .now in
-    let right = sym (c .before .right-length .ensures) ∙ not-false _ (c .if1 .left) in
-    length-facts s right
+first-wrong-requires c κs = whole c
 
 cast-refuse : tie.Need-cast-refuse
-cast-refuse c =
-    let test = c .before .before in
-    let cleared = test .before .before .before .before in
-    let start = cleared .before .before .before .before in
-    let s = start .args .bytes .now in
-    let right = sym (test .before .right-length .ensures) ∙ not-false _ (test .if1 .left) in
-    omega (arith, length-facts s right .few, c .if2 .taken)
+cast-refuse c = omega (arith, whole (c .before .before) .few, c .if2 .taken)
 
 refuse-requires-2 : tie.Need-refuse-requires-2
 refuse-requires-2 c κs = search needs
@@ -54,19 +60,10 @@ returns-2 : tie.Need-returns-2
 returns-2 c =
     let test = c .before .before .before in
     let cleared = test .before .before .before .before in
-    let start = cleared .before .before .before .before in
-    let s = start .args .bytes .now in
-    let right = sym (test .before .right-length .ensures) ∙ not-false _ (test .if1 .left) in
-    read-check s _ _ (cleared .clear-row .ensures) right _ (c .before .before .first-wrong .ensures) (c .before .if2 .taken) (c .refuse2 .ensures)
+    read-check _ _ _ (cleared .clear-row .ensures) (right test) _ (c .before .before .first-wrong .ensures) (c .before .if2 .taken) (c .refuse2 .ensures)
 
 has-mark-requires : tie.Need-has-mark-requires
-has-mark-requires c κs =
-    let test = c .before .before in
-    let cleared = test .before .before .before .before in
-    let start = cleared .before .before .before .before in
-    let s = start .args .bytes .now in
-    let right = sym (test .before .right-length .ensures) ∙ not-false _ (test .if1 .left) in
-    length-facts s right .some
+has-mark-requires c κs = whole (c .before .before) .some
 
 refuse-requires-3 : tie.Need-refuse-requires-3
 refuse-requires-3 c κs = search needs
@@ -79,29 +76,21 @@ returns-3 c =
     let checks = c .before .before .before in
     let test = checks .before .before in
     let cleared = test .before .before .before .before in
-    let start = cleared .before .before .before .before in
-    let s = start .args .bytes .now in
-    let right = sym (test .before .right-length .ensures) ∙ not-false _ (test .if1 .left) in
-    let good = rw (checks .before .first-wrong .ensures) at (checks .if2 .left) in
-    read-mark s _ _ (cleared .clear-row .ensures) right good (sym (c .before .before .has-mark .ensures .0) ∙ not-true _ (c .before .if3 .taken)) (c .refuse3 .ensures)
+    read-mark _ _ _ (cleared .clear-row .ensures) (right test) (good checks)
+    (sym (c .before .before .has-mark .ensures .0) ∙ not-true _ (c .before .if3 .taken)) (c .refuse3 .ensures)
 
 read-marked-requires : tie.Need-read-marked-requires
 read-marked-requires c κs =
     let marks = c .before in
     let checks = marks .before .before in
-    let test = checks .before .before in
-    let cleared = test .before .before .before .before in
-    let start = cleared .before .before .before .before in
-    let s = start .args .bytes .now in
-    let right = sym (test .before .right-length .ensures) ∙ not-false _ (test .if1 .left) in
-    let good = rw (checks .before .first-wrong .ensures) at (checks .if2 .left) in (
+    let test = checks .before .before in (
       record {
-        blocks = length-facts s right;
+        blocks = whole test;
         bytes = marks .before .has-mark .ensures .1;
-        right = all-right s good;
+        right = all-right _ (good checks);
         mark = sym (marks .before .has-mark .ensures .0) ∙ not-false _ (marks .if3 .left);
       },
-      cleared .clear-row .ensures,
+      test .before .before .before .before .clear-row .ensures,
     )
 
 same-length-4 : tie.Need-same-length-4
@@ -112,13 +101,8 @@ returns-4 c =
     let call = c .before .before in
     let marks = call .before .before in
     let checks = marks .before .before in
-    let test = checks .before .before in
-    let cleared = test .before .before .before .before in
-    let start = cleared .before .before .before .before in
-    let s = start .args .bytes .now in
-    let right = sym (test .before .right-length .ensures) ∙ not-false _ (test .if1 .left) in
-    let good = rw (checks .before .first-wrong .ensures) at (checks .if2 .left) in
-    read-on s _ _ right good (sym (marks .before .has-mark .ensures .0) ∙ not-false _ (marks .if3 .left)) (call .read-marked .ensures)
+    read-on _ _ _ (right (checks .before .before)) (good checks) (sym (marks .before .has-mark .ensures .0) ∙ not-false _ (marks .if3 .left))
+    (call .read-marked .ensures)
 
 pub read-into-spec : {M : Type 1} → statement M
 read-into-spec =

@@ -1,15 +1,17 @@
 -- `image::write_from` meets its contract: a case for each refusal, and the image put at the start of the room. Assumes nothing.
 use Prim.Native.Nat.{_+_, _*_, _-_}
-use mathlib.Core.Path.{sym, ap, _∙_}
+use mathlib.Core.Path.{_≡_, sym, ap, _∙_}
+use mathlib.Core.Bool.{true}
 use mathlib.Core.List.{_++_}
 use native.Mathlib.Omega.{arith}
-use lib.ListN.{drop}
+use lib.ListN.{length, drop}
 use lib.Seq.{length-take-le}
 use borrow.Author.Tests.{not-true, not-false}
 use borrow.Author.Needs.{needs}
-use Rattle.sketch.specs.Sketches.{held, cellsOf}
+use Rattle.sketch.specs.declared.Sketch.{Sketch}
+use Rattle.sketch.specs.Sketches.{held, isSketch, cellsOf}
 use Rattle.sketch.proofs.Facts.{sketch-facts, count-few}
-use Rattle.image.specs.Images.{blocksFor, imageOf}
+use Rattle.image.specs.Images.{imageOf}
 use Rattle.image.proofs.Limits.{writable, sketch-length}
 use Rattle.image.proofs.Answers.{write-not, write-short, write-done, room-put}
 use Rattle.image.proofs.write_from.Statement.{statement}
@@ -19,27 +21,29 @@ is-sketch-requires : tie.Need-is-sketch-requires
 is-sketch-requires c κs = search needs
 
 returns : tie.Need-returns
-returns c =
-    let a = c .before .before .before .before .args in
-    let k = held (a .settings) (a .level) (a .count) (a .cells .now) in
-    write-not k (a .room .now) (sym (c .before .is-sketch .ensures) ∙ not-true _ (c .if1 .taken))
+returns c = write-not _ _ (sym (c .before .is-sketch .ensures) ∙ not-true _ (c .if1 .taken))
+
+-- the sketch lent, and that it is one
+abbrev kept : tie.Else1 → Sketch
+kept c = let a = c .before .before .before .before .args in held (a .settings) (a .level) (a .count) (a .cells .now)
+
+is-one : (c : tie.Else1) → isSketch (kept c) ≡ true
+is-one c = sym (c .before .is-sketch .ensures) ∙ not-false _ (c .if1 .left)
+
+blocks-for-requires : tie.Need-blocks-for-requires
+blocks-for-requires c κs = search needs
 
 add-len : tie.Need-add-len
 add-len c = search needs
-
-add-len-2 : tie.Need-add-len-2
-add-len-2 c = search needs
 
 mul-len : tie.Need-mul-len
 mul-len c = search needs
 
 returns-2 : tie.Need-returns-2
 returns-2 c =
-    let test = c .before in
-    let a = test .before .before .before .before .args in
-    let k = held (a .settings) (a .level) (a .count) (a .cells .now) in
-    let e = sym (test .before .is-sketch .ensures) ∙ not-false _ (test .if1 .left) in
-    write-short k (a .room .now) e (omega (arith, c .if2 .taken, sketch-length k e .0))
+    let many = c .before in
+    let test = many .before in
+    write-short (kept test) _ (is-one test) (omega (arith, c .if2 .taken, many .blocks-for .ensures, sketch-length (kept test) (is-one test) .0))
 
 sub-put-image : tie.Need-sub-put-image
 sub-put-image c = search needs
@@ -52,19 +56,14 @@ part-put-image-end c = search needs
 
 slice-aggregate-put-image : tie.Need-slice-aggregate-put-image
 slice-aggregate-put-image c =
-    let test = c .before .before .before in
-    let a = test .before .before .before .before .args in
-    let k = held (a .settings) (a .level) (a .count) (a .cells .now) in
-    let w = sketch-facts k (sym (test .before .is-sketch .ensures) ∙ not-false _ (test .if1 .left)) in
-    sym (length-take-le (a .count) (a .cells .now) (omega (arith, count-few k w)))
+    let test = c .before .before .before .before in
+    sym (length-take-le _ _ (omega (arith, count-few (kept test) (sketch-facts (kept test) (is-one test)))))
 
 put-image-requires : tie.Need-put-image-requires
 put-image-requires c κs =
-    let test = c .before .before .before in
-    let a = test .before .before .before .before .args in
-    let k = held (a .settings) (a .level) (a .count) (a .cells .now) in
-    let w = sketch-facts k (sym (test .before .is-sketch .ensures) ∙ not-false _ (test .if1 .left)) in
-    writable k w (a .room .now) (c .before .before .if2 .left)
+    let many = c .before .before .before in
+    let test = many .before in
+    writable (kept test) (sketch-facts (kept test) (is-one test)) _ _ (many .blocks-for .ensures) (c .before .before .if2 .left)
 
 same-length : tie.Need-same-length
 same-length c = search needs
@@ -73,14 +72,14 @@ returns-3 : tie.Need-returns-3
 unfolding imageOf cellsOf
 returns-3 c =
     let call = c .before .before in
-    let test = call .before .before .before .before in
-    let a = test .before .before .before .before .args in
-    let k = held (a .settings) (a .level) (a .count) (a .cells .now) in
-    let e = sym (test .before .is-sketch .ensures) ∙ not-false _ (test .if1 .left) in
-    let n = sketch-length k e .0 in
-    let size = 512 * (1 + blocksFor (a .count)) in
-    write-done k (a .room .now) size _ e (sym n) (call .before .before .before .if2 .left)
-    (ap (λ l. l ++ drop (size - 0) (a .room .now)) (call .put-image .ensures) ∙ room-put (imageOf k) (a .room .now) size (sym n))
+    let many = call .before .before .before .before in
+    let test = many .before in
+    let k = kept test in
+    let room = test .before .before .before .before .args .room .now in
+    let size = 512 * (1 + many .blocks-for .result) in
+    let n : size ≡ length (imageOf k) = ap (λ m. 512 * (1 + m)) (many .blocks-for .ensures) ∙ sym (sketch-length k (is-one test) .0) in
+    write-done k room size _ (is-one test) n (call .before .before .before .if2 .left)
+    (ap (λ l. l ++ drop (size - 0) room) (call .put-image .ensures) ∙ room-put (imageOf k) room size n)
 
 pub write-from-spec : {M : Type 1} → statement M
 write-from-spec =
@@ -88,8 +87,8 @@ write-from-spec =
     (tie.spec
     is-sketch-requires
     returns
+    blocks-for-requires
     add-len
-    add-len-2
     mul-len
     returns-2
     sub-put-image

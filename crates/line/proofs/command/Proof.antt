@@ -2,7 +2,7 @@
 use mathlib.Core.Path.{ap, _∙_}
 use native.Mathlib.Omega.{arith}
 use lib.ListN.{getD}
-use Rattle.line.specs.Reading.{shaped}
+use Rattle.line.specs.Reading.{asked}
 use Rattle.line.proofs.Shapes.{command-row, command-empty, command-long}
 use borrow.Author.Needs.{needs}
 use Rattle.line.proofs.command.Statement.{statement}
@@ -26,7 +26,7 @@ shape-requires c κs = search needs
 returns-3 : tie.Need-returns-3
 returns-3 c =
     let l = c .before .before .before .before .before .before .args .line .now in
-    c .shape .ensures ∙ ap (shaped (getD l 0 0)) (c .before .read-numbers .ensures) ∙ command-row l (omega arith) (omega arith)
+    c .shape .ensures ∙ ap (asked (getD l 0 0)) (c .before .read-numbers .ensures) ∙ command-row l (omega arith) (omega arith)
 
 pub command-spec : {M : Type 1} → statement M
 command-spec =

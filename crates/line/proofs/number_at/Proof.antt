@@ -27,14 +27,16 @@ end-word-requires c κs = search needs
 returns : tie.Need-returns Inv-loop μ-loop
 returns c =
     let s = c .before .before .before .before in
-    let h : s .loop .i < length (s .before .before .args .line .now) = omega arith in
-    c .end-word .ensures ∙ sym (reads-space (s .before .before .args .at) (s .loop .i) (s .loop .v) (s .before .before .args .line .now) h (c .before .if1 .taken)) ∙ s .loop .inv .3
+    let a = s .before .before .args in
+    let h : s .loop .i < length (a .line .now) = omega arith in
+    c .end-word .ensures ∙ sym (reads-space (a .at) (s .loop .i) (s .loop .v) (a .line .now) h (c .before .if1 .taken)) ∙ s .loop .inv .3
 
 returns-2 : tie.Need-returns-2 Inv-loop μ-loop
 returns-2 c =
     let s = c .before .before .before .before in
-    let h : s .loop .i < length (s .before .before .args .line .now) = omega arith in
-    sym (reads-stop (s .before .before .args .at) (s .loop .i) (s .loop .v) (s .before .before .args .line .now) h (c .before .if1 .left) (c .if2 .taken)) ∙ s .loop .inv .3
+    let a = s .before .before .args in
+    let h : s .loop .i < length (a .line .now) = omega arith in
+    sym (reads-stop (a .at) (s .loop .i) (s .loop .v) (a .line .now) h (c .before .if1 .left) (c .if2 .taken)) ∙ s .loop .inv .3
 
 mul-v : tie.Need-mul-v Inv-loop μ-loop
 mul-v c = search needs
@@ -45,7 +47,8 @@ wide-requires c κs = search needs
 sub-v : tie.Need-sub-v Inv-loop μ-loop
 sub-v c =
     let s = c .before .before .before .before .before in
-    omega (arith, digit-low (s .before .before .args .at) (s .loop .i) (s .loop .v) (getD (s .before .before .args .line .now) (s .loop .i) 0) (c .before .if2 .left))
+    let a = s .before .before .args in
+    omega (arith, digit-low (a .at) (s .loop .i) (s .loop .v) (getD (a .line .now) (s .loop .i) 0) (c .before .if2 .left))
 
 add-v : tie.Need-add-v Inv-loop μ-loop
 add-v c = search needs
@@ -53,9 +56,11 @@ add-v c = search needs
 returns-3 : tie.Need-returns-3 Inv-loop μ-loop
 returns-3 c =
     let s = c .before .before .before .before .before .before in
-    let h : s .loop .i < length (s .before .before .args .line .now) = omega arith in
-    let l : 4294967295 < s .loop .v * 10 + (getD (s .before .before .args .line .now) (s .loop .i) 0 - 48) = omega arith in
-    sym (reads-large (s .before .before .args .at) (s .loop .i) (s .loop .v) (s .before .before .args .line .now) h (c .before .before .before .if1 .left) (c .before .before .if2 .left) l) ∙ s .loop .inv .3
+    let a = s .before .before .args in
+    let h : s .loop .i < length (a .line .now) = omega arith in
+    let l : 4294967295 < s .loop .v * 10 + (getD (a .line .now) (s .loop .i) 0 - 48) = omega arith in
+    sym (reads-large (a .at) (s .loop .i) (s .loop .v) (a .line .now) h (c .before .before .before .if1 .left) (c .before .before .if2 .left) l)
+    ∙ s .loop .inv .3
 
 add-i : tie.Need-add-i Inv-loop μ-loop
 add-i c = search needs
@@ -66,10 +71,12 @@ loop-less c = search needs
 loop-again : tie.Need-loop-again Inv-loop μ-loop
 loop-again c =
     let s = c .before .before .before .before .before .before in
-    let h : s .loop .i < length (s .before .before .args .line .now) = omega arith in
-    let e : c .before .wide .result ≡ getD (s .before .before .args .line .now) (s .loop .i) 0 = c .before .wide .ensures .0 in
-    let l : s .loop .v * 10 + (getD (s .before .before .args .line .now) (s .loop .i) 0 - 48) ≤ 4294967295 = omega arith in
-    (omega arith, omega arith, omega arith, rw e (sym (reads-on (s .before .before .args .at) (s .loop .i) (s .loop .v) (s .before .before .args .line .now) h (c .before .before .before .if1 .left) (c .before .before .if2 .left) l) ∙ s .loop .inv .3))
+    let a = s .before .before .args in
+    let h : s .loop .i < length (a .line .now) = omega arith in
+    let e : c .before .wide .result ≡ getD (a .line .now) (s .loop .i) 0 = c .before .wide .ensures .0 in
+    let l : s .loop .v * 10 + (getD (a .line .now) (s .loop .i) 0 - 48) ≤ 4294967295 = omega arith in
+    let on = reads-on (a .at) (s .loop .i) (s .loop .v) (a .line .now) h (c .before .before .before .if1 .left) (c .before .before .if2 .left) l in
+    (omega arith, omega arith, omega arith, rw e (sym on ∙ s .loop .inv .3))
 
 end-word-requires-2 : tie.Need-end-word-requires-2 Inv-loop μ-loop
 end-word-requires-2 c κs = search needs
@@ -77,7 +84,8 @@ end-word-requires-2 c κs = search needs
 returns-4 : tie.Need-returns-4 Inv-loop μ-loop
 returns-4 c =
     let s = c .before .before in
-    c .end-word2 .ensures ∙ sym (reads-end (s .before .before .args .at) (s .loop .i) (s .loop .v) (s .before .before .args .line .now) (omega arith)) ∙ s .loop .inv .3
+    let a = s .before .before .args in
+    c .end-word2 .ensures ∙ sym (reads-end (a .at) (s .loop .i) (s .loop .v) (a .line .now) (omega arith)) ∙ s .loop .inv .3
 
 pub number-at-spec : {M : Type 1} → statement M
 number-at-spec =

@@ -5,8 +5,8 @@ use mathlib.Core.Path.{_≡_, sym, ap, _∙_}
 use native.Mathlib.Omega.{arith}
 use lib.ListN.{length, take, getD, set, length-set}
 use lib.Seq.{take-all}
-use Rattle.rule.specs.Rows.{placed}
-use Rattle.rule.proofs.Places.{placed-none}
+use Rattle.lists.specs.Rows.{placed}
+use Rattle.lists.proofs.Places.{placed-none}
 use Rattle.line.proofs.Stores.{copied-more}
 use Rattle.line.proofs.put_bytes.Statement.{statement}
 use Rattle.line.proofs.put_bytes.Tie as tie
@@ -42,7 +42,8 @@ loop-again c =
     let i = s .loop .i in (
       omega arith,
       simp length-set (s .loop .inv .1),
-      ap (λ l. set l (a .at + i) (getD (a .bytes .now) i 0)) (s .loop .inv .2) ∙ copied-more (a .out .now) (a .at) (a .bytes .now) i (s .before .pre) (omega arith),
+      ap (λ l. set l (a .at + i) (getD (a .bytes .now) i 0)) (s .loop .inv .2)
+          ∙ copied-more (a .out .now) (a .at) (a .bytes .now) i (s .before .pre) (omega arith),
     )
 
 add-result : tie.Need-add-result Inv-loop μ-loop
@@ -56,7 +57,10 @@ returns c =
     let s = c .before in
     let a = s .before .args in
     let e : s .loop .i ≡ length (a .bytes .now) = omega arith in
-    record { contents = s .loop .inv .2 ∙ ap (placed (a .out .now) (a .at)) (take-all (s .loop .i) (a .bytes .now) (omega arith)); after = ap (λ k. a .at + k) e }
+    record {
+      contents = s .loop .inv .2 ∙ ap (placed (a .out .now) (a .at)) (take-all (s .loop .i) (a .bytes .now) (omega arith));
+      next-place = ap (λ k. a .at + k) e;
+    }
 
 pub put-bytes-spec : {M : Type 1} → statement M
 put-bytes-spec =

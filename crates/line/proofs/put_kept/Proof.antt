@@ -1,7 +1,7 @@
 -- `line::put_kept` meets its contract: three texts, one after the other. Assumes nothing.
 use native.Mathlib.Omega.{arith}
+use Rattle.lists.proofs.Stores.{stored-then}
 use Rattle.line.proofs.Decimals.{decimal-ten}
-use Rattle.line.proofs.Stores.{stored-then}
 use borrow.Author.Needs.{needs}
 use Rattle.line.proofs.put_kept.Statement.{statement}
 use Rattle.line.proofs.put_kept.Tie as tie
@@ -19,13 +19,19 @@ slice-aggregate-put-line : tie.Need-slice-aggregate-put-line
 slice-aggregate-put-line c = search needs
 
 put-line-requires : tie.Need-put-line-requires
-put-line-requires c κs = omega (arith, decimal-ten (c .before .before .before .before .before .before .before .before .before .before .before .before .args .level) (search needs))
+put-line-requires c κs =
+    let number = c .before .before .before .before in
+    omega (arith, decimal-ten (number .before .before .before .before .before .before .before .before .args .level) (search needs))
 
 same-length : tie.Need-same-length
 same-length c = search needs
 
 returns : tie.Need-returns
-returns c = stored-then (omega arith) (c .before .before .before .before .before .before .before .before .before .before .before .put-bytes .ensures) (stored-then (omega arith) (c .before .before .before .before .before .before .before .put-number .ensures) (c .before .before .put-line .ensures))
+returns c =
+    let last = c .before .before in
+    let number = last .before .before .before .before .before in
+    let head = number .before .before .before .before in
+    stored-then (head .put-bytes .ensures) _ (stored-then (number .put-number .ensures) _ (last .put-line .ensures) (omega arith)) (omega arith)
 
 pub put-kept-spec : {M : Type 1} → statement M
 put-kept-spec =

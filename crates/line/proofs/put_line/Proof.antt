@@ -1,7 +1,7 @@
 -- `line::put_line` meets its contract: three texts, one after the other. Assumes nothing.
 use native.Mathlib.Omega.{arith}
+use Rattle.lists.proofs.Stores.{stored-then}
 use Rattle.line.proofs.Decimals.{decimal-length}
-use Rattle.line.proofs.Stores.{stored-then}
 use borrow.Author.Needs.{needs}
 use Rattle.line.proofs.put_line.Statement.{statement}
 use Rattle.line.proofs.put_line.Tie as tie
@@ -16,13 +16,19 @@ slice-aggregate-put-bytes : tie.Need-slice-aggregate-put-bytes
 slice-aggregate-put-bytes c = search needs
 
 put-bytes-requires-2 : tie.Need-put-bytes-requires-2
-put-bytes-requires-2 c κs = omega (arith, decimal-length (c .before .before .before .before .before .before .before .before .before .before .before .before .args .v))
+put-bytes-requires-2 c κs =
+    let number = c .before .before .before .before in
+    omega (arith, decimal-length (number .before .before .before .before .before .before .before .before .args .v))
 
 same-length : tie.Need-same-length
 same-length c = search needs
 
 returns : tie.Need-returns
-returns c = stored-then (omega arith) (c .before .before .before .before .before .before .before .before .before .before .before .put-bytes .ensures) (stored-then (omega arith) (c .before .before .before .before .before .before .before .put-number .ensures) (c .before .before .put-bytes2 .ensures))
+returns c =
+    let last = c .before .before in
+    let number = last .before .before .before .before .before in
+    let head = number .before .before .before .before in
+    stored-then (head .put-bytes .ensures) _ (stored-then (number .put-number .ensures) _ (last .put-bytes2 .ensures) (omega arith)) (omega arith)
 
 pub put-line-spec : {M : Type 1} → statement M
 put-line-spec =

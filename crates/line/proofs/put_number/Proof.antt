@@ -4,8 +4,8 @@ use Prim.Native.Nat.{_≤_, _+_, _-_}
 use mathlib.Core.Path.{_≡_, sym, ap, _∙_}
 use native.Mathlib.Omega.{arith}
 use lib.ListN.{length, length-set}
-use Rattle.rule.specs.Rows.{placed}
-use Rattle.rule.proofs.Places.{placed-none}
+use Rattle.lists.specs.Rows.{placed}
+use Rattle.lists.proofs.Places.{placed-none}
 use Rattle.line.specs.Texts.{decimal}
 use Rattle.line.proofs.Decimals.{lastDigits, decimal-length, decimal-last}
 use Rattle.line.proofs.Stores.{digit-stored}
@@ -13,7 +13,8 @@ use Rattle.line.proofs.put_number.Statement.{statement}
 use Rattle.line.proofs.put_number.Tie as tie
 
 abbrev Inv-loop : tie.InvT-loop
-Inv-loop out₀ at x end i₀ y₀ out i y = (at ≤ i) × (i ≤ at + 20) × (length out ≡ length out₀) × (placed out at (lastDigits (i - at) y) ≡ placed out₀ at (decimal x))
+Inv-loop out₀ at x end i₀ y₀ out i y =
+    (at ≤ i) × (i ≤ at + 20) × (length out ≡ length out₀) × (placed out at (lastDigits (i - at) y) ≡ placed out₀ at (decimal x))
 
 abbrev μ-loop : tie.MeasureT-loop
 μ-loop out₀ at x end i₀ y₀ out i y = i
@@ -48,7 +49,12 @@ loop-less c = search needs
 loop-again : tie.Need-loop-again Inv-loop μ-loop
 loop-again c =
     let s = c .before in
-    (omega arith, omega arith, simp length-set (s .loop .inv .2), digit-stored (s .loop .out) (s .before .before .before .args .at) (s .loop .i) (s .loop .y) (omega arith) (omega (arith, s .before .before .before .pre)) ∙ s .loop .inv .3)
+    let k = s .before .before .before in (
+      omega arith,
+      omega arith,
+      simp length-set (s .loop .inv .2),
+      digit-stored (s .loop .out) (k .args .at) (s .loop .i) (s .loop .y) (omega arith) (omega (arith, k .pre)) ∙ s .loop .inv .3,
+    )
 
 same-length : tie.Need-same-length Inv-loop μ-loop
 same-length c = search needs
@@ -60,7 +66,7 @@ returns c =
     let e : s .loop .i - a .at ≡ 0 = omega arith in
     record {
       contents = sym (placed-none (s .loop .out) (a .at)) ∙ ap (λ k. placed (s .loop .out) (a .at) (lastDigits k (s .loop .y))) (sym e) ∙ s .loop .inv .3;
-      after = ap (λ k. a .at + k) (s .before .width .ensures);
+      next-place = ap (λ k. a .at + k) (s .before .width .ensures);
     }
 
 pub put-number-spec : {M : Type 1} → statement M

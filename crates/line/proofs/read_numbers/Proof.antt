@@ -53,8 +53,10 @@ no-numbers-requires-3 c κs = search needs
 
 returns-3 : tie.Need-returns-3 Inv-loop μ-loop
 returns-3 c =
-    let s = c .before .before .before .before .before .before .before .before in
-    c .no-numbers3 .ensures ∙ row-bad (s .loop .inv) (omega arith) (c .before .before .before .before .before .if1 .left) (sym (c .before .before .before .number-at .ensures) ∙ c .before .enum-told .given .1)
+    let word = c .before .before .before in
+    let s = word .before .before .before .before .before in
+    c .no-numbers3 .ensures
+    ∙ row-bad (s .loop .inv) (omega arith) (word .before .before .if1 .left) (sym (word .number-at .ensures) ∙ c .before .enum-told .given .1)
 
 mul-values : tie.Need-mul-values Inv-loop μ-loop
 mul-values c = search needs
@@ -67,14 +69,20 @@ add-count c = search needs
 
 loop-less : tie.Need-loop-less Inv-loop μ-loop
 loop-less c =
-    let s = c .before .before .before .before .before .before .before .before in
-    let m = gathered-more (s .loop .inv) (omega arith) (c .before .before .before .before .before .if1 .left) (c .before .before .before .before .if2 .left) _ _ (sym (c .before .before .before .number-at .ensures) ∙ c .before .word .given .1) in
+    let word = c .before .before .before in
+    let s = word .before .before .before .before .before in
+    let two = word .before in
+    let told = sym (word .number-at .ensures) ∙ c .before .word .given .1 in
+    let m = gathered-more (s .loop .inv) (omega arith) (two .before .if1 .left) (two .if2 .left) _ _ told in
     omega (arith, m .0)
 
 loop-again : tie.Need-loop-again Inv-loop μ-loop
 loop-again c =
-    let s = c .before .before .before .before .before .before .before .before in
-    gathered-more (s .loop .inv) (omega arith) (c .before .before .before .before .before .if1 .left) (c .before .before .before .before .if2 .left) _ _ (sym (c .before .before .before .number-at .ensures) ∙ c .before .word .given .1) .1
+    let word = c .before .before .before in
+    let s = word .before .before .before .before .before in
+    let two = word .before in
+    let told = sym (word .number-at .ensures) ∙ c .before .word .given .1 in
+    gathered-more (s .loop .inv) (omega arith) (two .before .if1 .left) (two .if2 .left) _ _ told .1
 
 returns-4 : tie.Need-returns-4 Inv-loop μ-loop
 returns-4 c =

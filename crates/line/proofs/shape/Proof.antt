@@ -1,6 +1,6 @@
 -- `line::shape` meets its contract: a test for each shape. Assumes nothing.
 use borrow.Author.Needs.{needs}
-use Rattle.line.specs.Reading.{shaped}
+use Rattle.line.specs.Reading.{asked}
 use Rattle.line.proofs.shape.Statement.{statement}
 use Rattle.line.proofs.shape.Tie as tie
 
@@ -20,7 +20,7 @@ array-read-t22 : tie.Need-array-read-t22
 array-read-t22 c = search needs
 
 returns : tie.Need-returns
-unfolding shaped
+unfolding asked
 returns c = rw (c .if1 .taken)
 
 array-read-t25 : tie.Need-array-read-t25
@@ -30,11 +30,11 @@ array-read-t28 : tie.Need-array-read-t28
 array-read-t28 c = search needs
 
 returns-2 : tie.Need-returns-2
-unfolding shaped
+unfolding asked
 returns-2 c = rw (c .before .if1 .left, c .if2 .taken)
 
 returns-3 : tie.Need-returns-3
-unfolding shaped
+unfolding asked
 returns-3 c = rw (c .before .before .if1 .left, c .before .if2 .left, c .if3 .taken)
 
 array-read-t31 : tie.Need-array-read-t31
@@ -47,7 +47,7 @@ array-read-t37 : tie.Need-array-read-t37
 array-read-t37 c = search needs
 
 returns-4 : tie.Need-returns-4
-unfolding shaped
+unfolding asked
 returns-4 c = rw (c .before .before .before .if1 .left, c .before .before .if2 .left, c .before .if3 .left, c .if4 .taken)
 
 array-read-t40 : tie.Need-array-read-t40
@@ -57,12 +57,16 @@ array-read-t43 : tie.Need-array-read-t43
 array-read-t43 c = search needs
 
 returns-5 : tie.Need-returns-5
-unfolding shaped
-returns-5 c = rw (c .before .before .before .before .if1 .left, c .before .before .before .if2 .left, c .before .before .if3 .left, c .before .if4 .left, c .if5 .taken)
+unfolding asked
+returns-5 c =
+    let k = c .before .before in
+    rw (k .before .before .if1 .left, k .before .if2 .left, k .if3 .left, c .before .if4 .left, c .if5 .taken)
 
 returns-6 : tie.Need-returns-6
-unfolding shaped
-returns-6 c = rw (c .before .before .before .before .if1 .left, c .before .before .before .if2 .left, c .before .before .if3 .left, c .before .if4 .left, c .if5 .left)
+unfolding asked
+returns-6 c =
+    let k = c .before .before in
+    rw (k .before .before .if1 .left, k .before .if2 .left, k .if3 .left, c .before .if4 .left, c .if5 .left)
 
 pub shape-spec : {M : Type 1} → statement M
 shape-spec =

@@ -3,7 +3,8 @@ use Prim.Native.Nat.{ℕ, _+_, _-_, _*_, _/_, _%_, _<_, _≤_}
 use native.Mathlib.Nat.{div-le-self}
 use native.Mathlib.Omega.{arith}
 use Rattle.next.specs.Rounds.{Least}
-use Rattle.next.proofs.Steps.{first, Moving, moving, still-answer, first-answer, past-answer, packed-answer, up-few, up-hit, up-none, mirrored-few, mirrored-hit, mirrored-none}
+use Rattle.next.proofs.Steps.{first, Moving, moving, still-answer, first-answer, past-answer, packed-answer, up-few, up-hit, up-none, mirrored-few}
+use Rattle.next.proofs.Steps.{mirrored-hit, mirrored-none}
 use borrow.Fn.Kinds.{In}
 use borrow.Fn.PlainCycle.{Measures, is, falls, and}
 use Rattle.next.proofs.search.Reads as reads
@@ -82,7 +83,8 @@ returns-3 : (t : ℕ) → lts.Need-returns-3 (calls t) (at-modulus t) reads.Post
 returns-3 t c =
     let s = c .before .before .before .before in
     let a = s .args in
-    packed-answer a.p a.a a.u a.l a.w a.b (c .pack .result) _ _ (c .pack .ensures) (first-answer a.p a.a a.u a.l a.w (s .pre .1) (omega arith) a.b (c .before .if3 .taken))
+    packed-answer a.p a.a a.u a.l a.w a.b (c .pack .result) _ _ (c .pack .ensures)
+    (first-answer a.p a.a a.u a.l a.w (s .pre .1) (omega arith) a.b (c .before .if3 .taken))
 
 sub-if4 : (t : ℕ) → lts.Need-sub-if4 (calls t) (at-modulus t) reads.Post
 sub-if4 t c = omega (arith, moving-at t (c .before .before))
@@ -191,7 +193,8 @@ up-hit-at t c =
     up-hit a.p a.a a.u a.l a.w (s .pre .1) (omega arith) (omega arith) a.b (h .result / 4294967296) (h .result % 4294967296) (h .ensures) (c .if6 .taken)
 
 add-pack-4 : (t : ℕ) → lts.Need-add-pack-4 (calls t) (at-modulus t) reads.Post
-add-pack-4 t c = let a = c .before .before .before .before .before .before .args in omega (arith, moving-at t (c .before .before .before .before .before), div-le-self a.p a.a)
+add-pack-4 t c = let a = c .before .before .before .before .before .before .args in omega
+    (arith, moving-at t (c .before .before .before .before .before), div-le-self a.p a.a)
 
 mul-pack-2 : (t : ℕ) → lts.Need-mul-pack-2 (calls t) (at-modulus t) reads.Post
 mul-pack-2 t c = omega (arith, moving-at t (c .before .before .before .before .before), up-few-at t c)
@@ -232,4 +235,8 @@ returns-7 t c =
 pub +search-spec : {M : Type 1} → statement M
 +search-spec =
     close μ-search
-    (λ t. lts.spec (calls t) (at-modulus t) reads.Post (returns t) (div-q t) (rem-r t) (sub-s t) (sub-s-2 t) (add-s t) (div-s t) (mul-x t) (returns-2 t) (mul-f t) (add-f t) (sub-f t) (pack-requires t) (returns-3 t) (sub-if4 t) (sub-search t) (add-search t) (sub-search-2 t) (mul-search t) (sub-search-3 t) (search-requires t) (mul-pack t) (add-pack t) (add-pack-2 t) (sub-pack t) (add-pack-3 t) (pack-requires-2 t) (returns-4 t) (sub-search-4 t) (mul-search-2 t) (sub-search-5 t) (search-requires-2 t) (add-pack-4 t) (mul-pack-2 t) (add-pack-5 t) (sub-pack-2 t) (add-pack-6 t) (pack-requires-3 t) (returns-5 t) (returns-6 t) (returns-7 t))
+    (λ t. lts.spec (calls t) (at-modulus t) reads.Post (returns t) (div-q t) (rem-r t) (sub-s t) (sub-s-2 t) (add-s t) (div-s t) (mul-x t) (returns-2 t)
+    (mul-f t) (add-f t) (sub-f t) (pack-requires t) (returns-3 t) (sub-if4 t) (sub-search t) (add-search t) (sub-search-2 t) (mul-search t)
+    (sub-search-3 t) (search-requires t) (mul-pack t) (add-pack t) (add-pack-2 t) (sub-pack t) (add-pack-3 t) (pack-requires-2 t) (returns-4 t)
+    (sub-search-4 t) (mul-search-2 t) (sub-search-5 t) (search-requires-2 t) (add-pack-4 t) (mul-pack-2 t) (add-pack-5 t) (sub-pack-2 t)
+    (add-pack-6 t) (pack-requires-3 t) (returns-5 t) (returns-6 t) (returns-7 t))

@@ -1,11 +1,10 @@
 -- `paper::highest` meets its contract. Assumes nothing.
-use Prim.Native.Nat.{_-_, _<_}
 use borrow.Author.Needs.{needs}
 use Rattle.paper.proofs.highest.Statement.{statement}
 use Rattle.paper.proofs.highest.Tie as tie
 
 abbrev Inv-loop : tie.InvT-loop
-Inv-loop settings x level₀ level = 0 < settings .p
+Inv-loop settings x level₀ level = Unit {0}
 
 abbrev μ-loop : tie.MeasureT-loop
 μ-loop settings x level₀ level = level

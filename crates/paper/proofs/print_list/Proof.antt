@@ -1,11 +1,11 @@
 -- `paper::print_list` meets its contract. Assumes nothing.
-use Prim.Native.Nat.{_-_, _≤_, _<_}
+use Prim.Native.Nat.{_-_, _≤_}
 use borrow.Author.Needs.{needs}
 use Rattle.paper.proofs.print_list.Statement.{statement}
 use Rattle.paper.proofs.print_list.Tie as tie
 
 abbrev Inv-loop : tie.InvT-loop
-Inv-loop settings x₀ t4 t5 t6 x = (0 < settings .p) × (x ≤ 11)
+Inv-loop settings x₀ t4 t5 t6 x = x ≤ 11
 
 abbrev μ-loop : tie.MeasureT-loop
 μ-loop settings x₀ t4 t5 t6 x = 11 - x
@@ -31,8 +31,8 @@ text-requires-2 c κs = search needs
 hash-requires : tie.Need-hash-requires Inv-loop μ-loop
 hash-requires c κs = search needs
 
-number-requires-2 : tie.Need-number-requires-2 Inv-loop μ-loop
-number-requires-2 c κs = search needs
+print-decimal-requires : tie.Need-print-decimal-requires Inv-loop μ-loop
+print-decimal-requires c κs = search needs
 
 slice-aggregate-text-3 : tie.Need-slice-aggregate-text-3 Inv-loop μ-loop
 slice-aggregate-text-3 c = search needs
@@ -43,8 +43,8 @@ text-requires-3 c κs = search needs
 highest-requires : tie.Need-highest-requires Inv-loop μ-loop
 highest-requires c κs = search needs
 
-number-requires-3 : tie.Need-number-requires-3 Inv-loop μ-loop
-number-requires-3 c κs = search needs
+number-requires-2 : tie.Need-number-requires-2 Inv-loop μ-loop
+number-requires-2 c κs = search needs
 
 slice-aggregate-text-4 : tie.Need-slice-aggregate-text-4 Inv-loop μ-loop
 slice-aggregate-text-4 c = search needs
@@ -77,11 +77,11 @@ print-list-spec =
     slice-aggregate-text-2
     text-requires-2
     hash-requires
-    number-requires-2
+    print-decimal-requires
     slice-aggregate-text-3
     text-requires-3
     highest-requires
-    number-requires-3
+    number-requires-2
     slice-aggregate-text-4
     text-requires-4
     add-x

@@ -11,7 +11,8 @@ use Rattle.rows.proofs.all_pass.Statement.{statement}
 use Rattle.rows.proofs.all_pass.Tie as tie
 
 abbrev Inv-loop : tie.InvT-loop
-Inv-loop level row size hasher all₀ i₀ all i = (i ≤ length row) × ((all && allIn (passes (hasher .settings) level) (drop i row)) ≡ allIn (passes (hasher .settings) level) row)
+Inv-loop level row size hasher all₀ i₀ all i = (i ≤ length row)
+    × ((all && allIn (passes (hasher .settings) level) (drop i row)) ≡ allIn (passes (hasher .settings) level) row)
 
 abbrev μ-loop : tie.MeasureT-loop
 μ-loop level row size hasher all₀ i₀ all i = length row - i
@@ -45,7 +46,8 @@ loop-again c =
     let a = c .before .before .before .before .before .before .before .args in
     let l = c .before .before .before .loop in
     let X = passes (c .before .before .before .before .hasher .result .settings) (a .level) in
-    let p = passes-test (c .before .before .before .before .hasher .ensures) (a .level) (getD (a .row .now) (l .i) 0) (c .before .before .before .before .before .region .ensures) (c .hash .ensures) in
+    let p = passes-test (c .before .before .before .before .hasher .ensures) (a .level) (getD (a .row .now) (l .i) 0)
+    (c .before .before .before .before .before .region .ensures) (c .hash .ensures) in
     (omega arith, test-on (a .row .now) (l .i) (l .all) _ (allIn X) (l .inv .1) (omega arith) _ (allIn X) (rw p))
 
 returns : tie.Need-returns Inv-loop μ-loop

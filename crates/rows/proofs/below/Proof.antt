@@ -31,13 +31,15 @@ loop-less : tie.Need-loop-less Inv-loop μ-loop
 loop-less c = omega arith
 
 loop-again : tie.Need-loop-again Inv-loop μ-loop
-loop-again c = parted-up (c .before .before .before .before .pre) (c .before .before .before .loop .inv) ((c .before .before .before .loop .lo + c .before .before .before .loop .hi) / 2) (omega arith) (omega arith) (c .if1 .taken)
+loop-again c = parted-up (c .before .before .before .before .pre) (c .before .before .before .loop .inv)
+    ((c .before .before .before .loop .lo + c .before .before .before .loop .hi) / 2) (omega arith) (omega arith) (c .if1 .taken)
 
 loop-less-2 : tie.Need-loop-less-2 Inv-loop μ-loop
 loop-less-2 c = omega arith
 
 loop-again-2 : tie.Need-loop-again-2 Inv-loop μ-loop
-loop-again-2 c = parted-down (c .before .before .before .before .pre) (c .before .before .before .loop .inv) ((c .before .before .before .loop .lo + c .before .before .before .loop .hi) / 2) (omega arith) (omega arith) (c .if1 .left)
+loop-again-2 c = parted-down (c .before .before .before .before .pre) (c .before .before .before .loop .inv)
+    ((c .before .before .before .loop .lo + c .before .before .before .loop .hi) / 2) (omega arith) (omega arith) (c .if1 .left)
 
 returns : tie.Need-returns Inv-loop μ-loop
 returns c =

@@ -4,9 +4,9 @@ use mathlib.Core.Path.{_≡_, refl}
 use native.Mathlib.Omega.{arith}
 use lib.ListN.{length, take}
 use lib.Seq.{take-all}
-use Rattle.rule.specs.Cells.{filter}
+use Rattle.lists.specs.Lists.{filter}
+use Rattle.lists.proofs.Steps.{filter-on, filter-off, length-more}
 use Rattle.rule.specs.Rule.{passes}
-use Rattle.rule.proofs.Steps.{filter-on, filter-off, length-more}
 use Rattle.rows.proofs.Walks.{same-settings, hasher-ready, passes-on, passes-off}
 use Rattle.rows.proofs.count_passing.Statement.{statement}
 use Rattle.rows.proofs.count_passing.Tie as tie
@@ -49,7 +49,9 @@ loop-again c =
     let a = c .before .before .before .before .before .before .before .before .args in
     let l = c .before .before .before .before .loop in
     let h : l .i < length (a .row .now) = omega arith in
-    let e = filter-on (passes (c .before .before .before .before .before .hasher .result .settings) (a .level)) (a .row .now) (l .i) h (passes-on (c .before .before .before .before .before .hasher .ensures) (a .level) _ (c .before .before .before .before .before .before .region .ensures) (c .before .hash .ensures) (c .if1 .taken)) in
+    let e = filter-on (passes (c .before .before .before .before .before .hasher .result .settings) (a .level)) (a .row .now) (l .i) h
+    (passes-on (c .before .before .before .before .before .hasher .ensures) (a .level) _
+    (c .before .before .before .before .before .before .region .ensures) (c .before .hash .ensures) (c .if1 .taken)) in
     (omega arith, omega arith, rw (e, length-more) (omega arith))
 
 loop-less-2 : tie.Need-loop-less-2 Inv-loop μ-loop
@@ -60,7 +62,9 @@ loop-again-2 c =
     let a = c .before .before .before .before .before .before .before .before .args in
     let l = c .before .before .before .before .loop in
     let h : l .i < length (a .row .now) = omega arith in
-    let e = filter-off (passes (c .before .before .before .before .before .hasher .result .settings) (a .level)) (a .row .now) (l .i) h (passes-off (c .before .before .before .before .before .hasher .ensures) (a .level) _ (c .before .before .before .before .before .before .region .ensures) (c .before .hash .ensures) (c .if1 .left)) in
+    let e = filter-off (passes (c .before .before .before .before .before .hasher .result .settings) (a .level)) (a .row .now) (l .i) h
+    (passes-off (c .before .before .before .before .before .hasher .ensures) (a .level) _
+    (c .before .before .before .before .before .before .region .ensures) (c .before .hash .ensures) (c .if1 .left)) in
     (omega arith, omega arith, rw e (l .inv .2))
 
 returns : tie.Need-returns Inv-loop μ-loop

@@ -33,8 +33,11 @@ loop-less c = omega arith
 loop-again : tie.Need-loop-again Inv-loop μ-loop
 loop-again c =
     let l = c .before .before .loop in
-    let a = c .before .before .before .args in
-    (omega arith, test-on (a .row .now) (l .i) (l .all) _ (inOrder (a .n) (l .low)) (l .inv .1) (omega arith) _ (inOrder (a .n) (getD (a .row .now) (l .i) 0)) refl)
+    let a = c .before .before .before .args in (
+      omega arith,
+      test-on (a .row .now) (l .i) (l .all) _ (inOrder (a .n) (l .low)) (l .inv .1) (omega arith) _
+          (inOrder (a .n) (getD (a .row .now) (l .i) 0)) refl,
+    )
 
 returns : tie.Need-returns Inv-loop μ-loop
 returns c =

@@ -13,7 +13,12 @@ in-order-requires c κs = search needs
 returns : tie.Need-returns
 returns c =
     let a = c .before .before .before .args in
-    rw (c .if1 .taken, all-pass-zero (a .settings) (positive (a .settings) (c .before .before .before .pre)) (a .row .now), and-true (inOrder (a .settings .n) 0 (a .row .now))) (c .before .in-order .ensures)
+    rw (
+      c .if1 .taken,
+      all-pass-zero (a .settings) (positive (a .settings) (c .before .before .before .pre)) (a .row .now),
+      and-true
+          (inOrder (a .settings .n) 0 (a .row .now)),
+    ) (c .before .in-order .ensures)
 
 all-pass-requires : tie.Need-all-pass-requires
 all-pass-requires c κs = search needs

@@ -5,9 +5,9 @@ use native.Mathlib.Omega.{arith}
 use native.Mathlib.Nat.{add-zero, add-assoc}
 use lib.ListN.{length, take, getD, length-set}
 use lib.Seq.{take-all}
-use Rattle.rule.proofs.Steps.{take-next}
-use Rattle.rows.specs.Walked.{Stored}
-use Rattle.rows.proofs.Stores.{stored-none, stored-more}
+use Rattle.lists.specs.Rows.{Stored}
+use Rattle.lists.proofs.Steps.{take-next}
+use Rattle.lists.proofs.Stores.{stored-none, stored-more}
 use Rattle.rows.proofs.store.Statement.{statement}
 use Rattle.rows.proofs.store.Tie as tie
 
@@ -45,8 +45,12 @@ loop-again : tie.Need-loop-again Inv-loop μ-loop
 loop-again c =
     let a = c .before .before .before .args in
     let l = c .before .before .loop in
-    let h : l .i < length (a .row .now) = omega arith in
-    (omega arith, simp length-set (l .inv .1), rw (take-next (a .row .now) (l .i) h, ← add-assoc) (stored-more (l .inv .2) (getD (a .row .now) (l .i) 0) (omega arith)))
+    let h : l .i < length (a .row .now) = omega arith in (
+      omega arith,
+      simp length-set (l .inv .1),
+      rw (take-next (a .row .now) (l .i) h, ← add-assoc)
+          (stored-more (l .inv .2) (getD (a .row .now) (l .i) 0) (omega arith)),
+    )
 
 add-result : tie.Need-add-result Inv-loop μ-loop
 add-result c = omega arith

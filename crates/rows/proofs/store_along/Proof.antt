@@ -1,6 +1,9 @@
 -- `rows::store_along` meets its contract. Assumes nothing.
 use Prim.Native.Nat.{suc, _-_}
 use native.Mathlib.Omega.{arith}
+use borrow.Author.Needs.{needs}
+use Rattle.rule.proofs.Facts.{small}
+use Rattle.find.proofs.Counting.{hash-below}
 use Rattle.rows.proofs.Hitting.{Along, along-start, along-room, along-on, along-end}
 use Rattle.rows.proofs.store_along.Statement.{statement}
 use Rattle.rows.proofs.store_along.Tie as tie
@@ -18,7 +21,13 @@ of-requires : tie.Need-of-requires Inv-loop μ-loop
 of-requires c κs = (c .before .pre .0 .good, omega (arith, c .before .pre .0 .last))
 
 hash-requires : tie.Need-hash-requires Inv-loop μ-loop
-hash-requires c κs = omega (arith, c .before .before .pre .0 .good .a-high)
+hash-requires c κs = tt
+
+cast-t12 : tie.Need-cast-t12 Inv-loop μ-loop
+cast-t12 c =
+    let start = c .before .before .before in
+    let good = start .pre .0 .good in
+    omega (arith, c .hash .ensures, hash-below (start .args .settings) (start .args .first) good, small (start .args .settings) good)
 
 loop-holds : tie.Need-loop-holds Inv-loop μ-loop
 loop-holds c = let start = c .before .before .before in along-start _ _ _ _ _ _ _ (c .hash .ensures) (start .pre .2)
@@ -72,6 +81,7 @@ store-along-spec =
     sub-far
     of-requires
     hash-requires
+    cast-t12
     loop-holds
     mul-out
     slice-write-out

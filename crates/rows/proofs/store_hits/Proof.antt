@@ -2,7 +2,7 @@
 use mathlib.Core.Path.{sym, _∙_}
 use native.Mathlib.Omega.{arith}
 use Rattle.rule.specs.Samples.{nextHit}
-use Rattle.rule.proofs.Rows.{next-some}
+use Rattle.rule.proofs.NextHits.{next-some}
 use Rattle.find.proofs.Counting.{count-none}
 use Rattle.rows.proofs.Hitting.{cell-next, nothing-next, never-refused, hits-none, hits-one, hits-from}
 use borrow.Author.Needs.{needs}
@@ -45,8 +45,13 @@ store-along-requires c κs =
     let a = start .args in
     let e = cell-next (nextHit (a .settings) (a .level) (a .lo) (a .hi)) _ _ (first .first-in .ensures) (c .before .before .before .x .given .1) in
     let h = next-some _ _ _ _ _ e in
-    let w = start .pre .0 in
-    (record { good = w .good; low = omega (arith, w .low, h .0); start = omega (arith, h .1); last = w .last }, h .1, h .2, omega (arith, start .pre .1, start .pre .2, hits-from _ _ _ _ _ e .1))
+    let w = start .pre .0 in (
+      record { good = w .good; low = omega (arith, w .low, h .0); start = omega (arith, h .1); last = w .last },
+      h .1,
+      h .2,
+      omega
+          (arith, start .pre .1, start .pre .2, hits-from _ _ _ _ _ e .1),
+    )
 
 enum-told : tie.Need-enum-told
 enum-told c = search needs
@@ -62,7 +67,8 @@ returns-3 c =
     let first = c .before .before .before .before .before .before .before .before in
     let start = first .before .before .before in
     let a = start .args in
-    let e = cell-next (nextHit (a .settings) (a .level) (a .lo) (a .hi)) _ _ (first .first-in .ensures) (c .before .before .before .before .before .before .x .given .1) in
+    let e = cell-next (nextHit (a .settings) (a .level) (a .lo) (a .hi)) _ _ (first .first-in .ensures)
+    (c .before .before .before .before .before .before .x .given .1) in
     rw (hits-from _ _ _ _ _ e .0) at (c .before .before .store-along .ensures)
 
 returns-4 : tie.Need-returns-4

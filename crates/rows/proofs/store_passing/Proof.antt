@@ -5,33 +5,44 @@ use mathlib.Core.Bool.{true}
 use native.Mathlib.Omega.{arith}
 use lib.ListN.{length, take, getD, length-set}
 use lib.Seq.{take-all}
-use Rattle.rule.specs.Cells.{filter}
+use Rattle.lists.specs.Lists.{filter}
+use Rattle.lists.specs.Rows.{Stored}
+use Rattle.lists.proofs.Steps.{filter-on, filter-off, filter-room}
+use Rattle.lists.proofs.Stores.{stored-none, stored-more}
 use Rattle.rule.specs.Rule.{passes}
-use Rattle.rule.proofs.Steps.{filter-on, filter-off, filter-room}
-use Rattle.rows.specs.Walked.{Stored}
 use Rattle.rows.proofs.Walks.{same-settings, hasher-ready, passes-on, passes-off}
-use Rattle.rows.proofs.Stores.{stored-none, stored-more}
 use Rattle.rows.proofs.store_passing.Statement.{statement}
 use Rattle.rows.proofs.store_passing.Tie as tie
 
 abbrev Inv-loop : tie.InvT-loop
-Inv-loop out₀ at level row size hasher next₀ i₀ out next i = (i ≤ length row) × (length out ≡ length out₀) × Stored out₀ at (filter (passes (hasher .settings) level) (take i row)) next out
+Inv-loop out₀ at level row size hasher next₀ i₀ out next i = (i ≤ length row) × (length out ≡ length out₀)
+    × Stored out₀ at (filter (passes (hasher .settings) level) (take i row)) next out
 
 abbrev μ-loop : tie.MeasureT-loop
 μ-loop out₀ at level row size hasher next₀ i₀ out next i = length row - i
 
 -- a cell that passes, and the room for it
 passed : (c : tie.Then1 Inv-loop μ-loop)
-    → passes (c .before .before .before .before .before .hasher .result .settings) (c .before .before .before .before .before .before .before .before .before .args .level) (getD (c .before .before .before .before .before .before .before .before .before .args .row .now) (c .before .before .before .before .loop .i) 0) ≡ true
-passed c = passes-on (c .before .before .before .before .before .hasher .ensures) _ _ (c .before .before .before .before .before .before .region .ensures) (c .before .hash .ensures) (c .if1 .taken)
+    → passes (c .before .before .before .before .before .hasher .result .settings)
+    (c .before .before .before .before .before .before .before .before .before .args .level)
+    (getD (c .before .before .before .before .before .before .before .before .before .args .row .now) (c .before .before .before .before .loop .i) 0)
+    ≡ true
+passed c = passes-on (c .before .before .before .before .before .hasher .ensures) _ _ (c .before .before .before .before .before .before .region .ensures)
+    (c .before .hash .ensures) (c .if1 .taken)
 
-room : (c : tie.Then1 Inv-loop μ-loop) → c .before .before .before .before .loop .next < length (c .before .before .before .before .before .before .before .before .before .args .out .now)
+room : (c : tie.Then1 Inv-loop μ-loop) → c .before .before .before .before .loop .next < length
+    (c .before .before .before .before .before .before .before .before .before .args .out .now)
 room c =
     let a = c .before .before .before .before .before .before .before .before .before .args in
     let l = c .before .before .before .before .loop in
     let h : l .i < length (a .row .now) = omega arith in
     let e = same-settings (c .before .before .before .before .before .hasher .ensures) in
-    omega (arith, rw e at (filter-room (passes (c .before .before .before .before .before .hasher .result .settings) (a .level)) (a .row .now) (l .i) h (passed c)), rw e at (l .inv .2 .next-place))
+    omega (
+      arith,
+      rw e at (filter-room (passes (c .before .before .before .before .before .hasher .result .settings) (a .level)) (a .row .now) (l .i) h
+          (passed c)),
+      rw e at (l .inv .2 .next-place),
+    )
 
 region-requires : tie.Need-region-requires Inv-loop μ-loop
 region-requires c κs = omega arith
@@ -73,7 +84,8 @@ loop-again c =
     let h : l .i < length (a .row .now) = omega arith in (
       omega arith,
       simp length-set (l .inv .1),
-      rw (filter-on (passes (c .before .before .before .before .before .hasher .result .settings) (a .level)) (a .row .now) (l .i) h (passed c)) (stored-more (l .inv .2) (getD (a .row .now) (l .i) 0) (room c)),
+      rw (filter-on (passes (c .before .before .before .before .before .hasher .result .settings) (a .level)) (a .row .now) (l .i) h (passed c))
+          (stored-more (l .inv .2) (getD (a .row .now) (l .i) 0) (room c)),
     )
 
 loop-less-2 : tie.Need-loop-less-2 Inv-loop μ-loop
@@ -84,8 +96,13 @@ loop-again-2 c =
     let a = c .before .before .before .before .before .before .before .before .before .args in
     let l = c .before .before .before .before .loop in
     let h : l .i < length (a .row .now) = omega arith in
-    let p = passes-off (c .before .before .before .before .before .hasher .ensures) (a .level) _ (c .before .before .before .before .before .before .region .ensures) (c .before .hash .ensures) (c .if1 .left) in
-    (omega arith, l .inv .1, rw (filter-off (passes (c .before .before .before .before .before .hasher .result .settings) (a .level)) (a .row .now) (l .i) h p) (l .inv .2))
+    let p = passes-off (c .before .before .before .before .before .hasher .ensures) (a .level) _
+    (c .before .before .before .before .before .before .region .ensures) (c .before .hash .ensures) (c .if1 .left) in (
+      omega arith,
+      l .inv .1,
+      rw (filter-off (passes (c .before .before .before .before .before .hasher .result .settings) (a .level)) (a .row .now)
+          (l .i) h p) (l .inv .2),
+    )
 
 same-length : tie.Need-same-length Inv-loop μ-loop
 same-length c = omega arith

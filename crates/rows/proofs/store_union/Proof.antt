@@ -7,8 +7,8 @@ use native.Mathlib.Omega.{arith}
 use borrow.Author.Needs.{needs}
 use lib.ListN.{length, drop, length-drop}
 use borrow.Author.Tests.{ltb-true, ltb-false}
-use Rattle.rule.proofs.Steps.{part-rest}
-use Rattle.rows.specs.Walked.{Stored}
+use Rattle.lists.specs.Rows.{Stored}
+use Rattle.lists.proofs.Steps.{part-rest}
 use Rattle.rows.proofs.Merges.{Merging, merge-start, merge-on, merge-end}
 use Rattle.rows.proofs.store_union.Statement.{statement}
 use Rattle.rows.proofs.store_union.Tie as tie
@@ -30,7 +30,8 @@ abbrev row-b : tie.At-loop Inv-loop μ-loop → List ℕ
 row-b c = c .before .before .before .before .args .b .now
 
 -- what was left of the first row is stored, and then that of the second
-first : (c : tie.After-store Inv-loop μ-loop) → Stored (left c .loop .out) (left c .loop .next) (drop (left c .loop .i) (row-a (left c))) (c .store .result) (c .store .last .0)
+first : (c : tie.After-store Inv-loop μ-loop)
+    → Stored (left c .loop .out) (left c .loop .next) (drop (left c .loop .i) (row-a (left c))) (c .store .result) (c .store .last .0)
 first c = rw (part-rest (row-a (left c)) (left c .loop .i)) at (c .store .ensures)
 
 first-length : (c : tie.After-store Inv-loop μ-loop) → length (c .store .last .0) ≡ length (left c .before .before .before .before .args .out .now)
@@ -40,7 +41,8 @@ abbrev stored : tie.After-store2 Inv-loop μ-loop → tie.After-store Inv-loop �
 stored c = c .before .before .before .before .before
 
 second : (c : tie.After-store2 Inv-loop μ-loop)
-    → Stored (stored c .store .last .0) (stored c .store .result) (drop (left (stored c) .loop .j) (row-b (left (stored c)))) (c .store2 .result) (c .store2 .last .0)
+    → Stored (stored c .store .last .0) (stored c .store .result) (drop (left (stored c) .loop .j) (row-b (left (stored c)))) (c .store2 .result)
+    (c .store2 .last .0)
 second c = rw (part-rest (row-b (left (stored c))) (left (stored c) .loop .j)) at (c .store2 .ensures)
 
 loop-holds : tie.Need-loop-holds Inv-loop μ-loop
@@ -90,7 +92,8 @@ loop-again c =
     let w = c .before .before .before .before .before .before .before in
     let h : w .loop .i < length (row-a w) = omega arith in
     let k : w .loop .j < length (row-b w) = omega (arith, ltb-true) in
-    merge-on (w .loop .inv) h k (omega arith) (record { stores = c .before .before .lesser .ensures; moves-a = c .before .step .ensures; moves-b = c .step2 .ensures })
+    merge-on (w .loop .inv) h k (omega arith)
+    (record { stores = c .before .before .lesser .ensures; moves-a = c .before .step .ensures; moves-b = c .step2 .ensures })
 
 mul-store : tie.Need-mul-store Inv-loop μ-loop
 mul-store c = omega arith
@@ -140,7 +143,8 @@ same-length c = c .before .before .store2 .kept .0 ∙ first-length (stored (c .
 returns : tie.Need-returns Inv-loop μ-loop
 returns c =
     let f = stored (c .before .before) in
-    merge-end (left f .loop .inv) (⊎-elim (λ w. inr (ltb-false _ _ (w .1 .left))) (λ w. inl (w .left)) (f .before .before .before .loop-test .came)) (first f) (second (c .before .before))
+    merge-end (left f .loop .inv) (⊎-elim (λ w. inr (ltb-false _ _ (w .1 .left))) (λ w. inl (w .left)) (f .before .before .before .loop-test .came)) (first f)
+    (second (c .before .before))
 
 pub store-union-spec : {M : Type 1} → statement M
 store-union-spec =

@@ -5,7 +5,7 @@ use mathlib.Core.Bool.{Bool, _&&_}
 use native.Mathlib.Omega.{arith}
 use lib.Dec.{eqb}
 use lib.ListN.{length, drop, getD}
-use Rattle.rule.specs.Rows.{allZero}
+use Rattle.lists.specs.Rows.{allZero}
 use Rattle.rows.proofs.Walks.{test-on, test-end, none-seen}
 use Rattle.rows.proofs.zeros.Statement.{statement}
 use Rattle.rows.proofs.zeros.Tie as tie

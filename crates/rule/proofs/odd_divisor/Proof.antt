@@ -2,12 +2,12 @@
 use Prim.Native.Nat.{ℕ, _+_, _%_, _^_, _<_}
 use mathlib.Core.Path.{_≡_, sym, subst}
 use native.Mathlib.Omega.{arith}
-use Rattle.rule.proofs.Divisors.{Keeps, keeps-start, keeps-turn, keeps-end, equal-bits, strips-rest, strips-few}
+use Rattle.rule.proofs.Divisors.{KeepsDivisors, keeps-start, keeps-turn, keeps-end, equal-bits, strips-rest, strips-few}
 use Rattle.rule.proofs.odd_divisor.Statement.{statement}
 use Rattle.rule.proofs.odd_divisor.Tie as tie
 
 abbrev Inv-loop : tie.InvT-loop
-Inv-loop a p x₀ y₀ x y = Keeps a p x y × (x % 2 ≡ 1) × (y % 2 ≡ 1) × (x < 2 ^ 32) × (y < 2 ^ 32)
+Inv-loop a p x₀ y₀ x y = KeepsDivisors a p x y × (x % 2 ≡ 1) × (y % 2 ≡ 1) × (x < 2 ^ 32) × (y < 2 ^ 32)
 
 abbrev μ-loop : tie.MeasureT-loop
 μ-loop a p x₀ y₀ x y = x + y
@@ -42,7 +42,8 @@ loop-again c =
 returns : tie.Need-returns Inv-loop μ-loop
 returns c =
     let e = c .loop-test .left in
-    keeps-end _ _ _ (subst (λ (v : ℕ). Keeps (c .before .before .args .a) (c .before .before .args .p) (c .before .loop .x) v) (sym e) (c .before .loop .inv .0))
+    keeps-end _ _ _ (subst (λ (v : ℕ). KeepsDivisors (c .before .before .args .a) (c .before .before .args .p) (c .before .loop .x) v) (sym e)
+    (c .before .loop .inv .0))
 
 pub odd-divisor-spec : {M : Type 1} → statement M
 odd-divisor-spec =

@@ -1,16 +1,18 @@
 -- `sketch::estimate_of` meets its contract. Assumes nothing.
 use Prim.Native.Nat.{ℕ}
-use mathlib.Core.Path.{sym, subst}
-use native.Mathlib.Omega.{arith}
+use mathlib.Core.Path.{_≡_, sym, ap, _∙_, subst}
+use mathlib.Core.Bool.{true}
 use denote.Ref.{now}
 use lib.Dec.{T}
 use lib.IntN.{pos}
-use lib.Ieee.{binary64, inFloat}
+use lib.Ieee.{binary64, inFloat, ofInt}
+use Rattle.rule.specs.Refusals.{Outcome, answered}
 use Rattle.find.proofs.Checks.{denied, granted}
 use Rattle.sketch.specs.declared.Sketch.{Sketch}
-use Rattle.sketch.specs.Sketches.{held, Sound}
+use Rattle.sketch.specs.Estimates.{Weight, about}
+use Rattle.sketch.specs.Sketches.{held, isSketch, Sound}
 use Rattle.sketch.proofs.Facts.{sketch-facts, count-few}
-use Rattle.sketch.proofs.Worth.{level-small, shifted, in-float, estimate-not, estimate-exact, estimate-about}
+use Rattle.sketch.proofs.Worth.{level-small, in-float, weighs-not, weighs-exact, weighs-about, estimate-worth}
 use borrow.Author.Needs.{needs}
 use Rattle.sketch.proofs.estimate_of.Statement.{statement}
 use Rattle.sketch.proofs.estimate_of.Tie as tie
@@ -20,33 +22,41 @@ abbrev asked : tie.After-shared-slice-known → Sketch
 asked c = let a = c .before .args in held (a .settings) (a .level) (a .count) (now (a .cells))
 
 -- it is one
+is-one : (c : tie.Else2) → isSketch (asked (c .before .before .before)) ≡ true
+is-one c = granted _ _ (c .before .before .is-sketch .ensures) (c .before .if1 .left)
+
 sound : (c : tie.Else2) → Sound (asked (c .before .before .before))
-sound c = sketch-facts _ (granted _ _ (c .before .before .is-sketch .ensures) (c .before .if1 .left))
+sound c = sketch-facts _ (is-one c)
 
 is-sketch-requires : tie.Need-is-sketch-requires
 is-sketch-requires c κs = search needs
 
 returns : tie.Need-returns
-returns c = estimate-not (asked (c .before .before)) (denied _ _ (c .before .is-sketch .ensures) (c .if1 .taken))
+returns c =
+    let k = asked (c .before .before) in
+    estimate-worth k _ (sym (weighs-not k (denied _ _ (c .before .is-sketch .ensures) (c .if1 .taken))))
 
 returns-2 : tie.Need-returns-2
-returns-2 c = estimate-exact (asked (c .before .before .before)) (granted _ _ (c .before .before .is-sketch .ensures) (c .before .if1 .left)) (c .if2 .taken)
+returns-2 c =
+    let k = asked (c .before .before .before) in
+    estimate-worth k _ (sym (weighs-exact k (granted _ _ (c .before .before .is-sketch .ensures) (c .before .if1 .left)) (c .if2 .taken)))
 
-shl-t9 : tie.Need-shl-t9
-shl-t9 c = omega (arith, level-small _ (sound c))
+stands-at-requires : tie.Need-stands-at-requires
+stands-at-requires c κs = level-small _ (sound c)
 
-int-to-float-t10 : tie.Need-int-to-float-t10
-int-to-float-t10 c =
-    let k = asked (c .before .before .before .before) in
-    let w = sound (c .before) in
-    subst (λ (m : ℕ). T (inFloat binary64 (pos m))) (sym (shifted (k .level) (k .count) (level-small k w) (count-few k w))) (in-float (k .level) (k .count) (level-small k w) (count-few k w))
+int-to-float-t8 : tie.Need-int-to-float-t8
+int-to-float-t8 c =
+    let k = asked (c .before .before .before .before .before) in
+    let w = sound (c .before .before) in
+    subst (λ (m : ℕ). T (inFloat binary64 (pos m))) (sym (c .before .stands-at .ensures)) (in-float (k .level) (k .count) (level-small k w) (count-few k w))
 
 returns-3 : tie.Need-returns-3
 returns-3 c =
-    let k = asked (c .before .before .before .before) in
-    let w = sound (c .before) in
-    estimate-about k (granted _ _ (c .before .before .before .is-sketch .ensures) (c .before .before .if1 .left)) (c .before .if2 .left) (level-small k w) (count-few k w)
+    let k = asked (c .before .before .before .before .before) in
+    let told : ℕ → Outcome Weight = λ m. answered (about (ofInt binary64 (pos m))) in
+    estimate-worth k _ (ap told (c .before .stands-at .ensures) ∙ sym (weighs-about k (is-one (c .before .before)) (c .before .before .if2 .left)))
 
 pub estimate-of-spec : {M : Type 1} → statement M
 estimate-of-spec =
-    tie.close (tie.spec is-sketch-requires returns returns-2 shl-t9 int-to-float-t10 returns-3)
+    tie.close
+    (tie.spec is-sketch-requires returns returns-2 stands-at-requires int-to-float-t8 returns-3)

@@ -5,10 +5,10 @@ use native.Mathlib.Omega.{arith}
 use denote.Ref.{now}
 use lib.ListN.{length}
 use lib.Seq.{length-take-le}
+use Rattle.lists.specs.Rows.{allZero}
+use Rattle.lists.proofs.Steps.{part-rest}
 use Rattle.rule.specs.Rule.{Good}
-use Rattle.rule.specs.Rows.{allZero}
 use Rattle.rule.proofs.Facts.{good-facts, positive}
-use Rattle.rule.proofs.Steps.{part-rest}
 use Rattle.find.proofs.Checks.{denied, granted}
 use Rattle.sketch.specs.declared.Sketch.{Sketch}
 use Rattle.sketch.specs.Sketches.{held}
@@ -54,7 +54,7 @@ returns-2 : tie.Need-returns-2
 returns-2 c = bad-settings (asked (c .before .before .before .before .before)) (denied _ _ (c .before .good2 .ensures) (c .if2 .taken))
 
 has-level-requires : tie.Need-has-level-requires
-has-level-requires c κs = positive _ (known (c .before))
+has-level-requires c κs = search needs
 
 slice-aggregate-rises : tie.Need-slice-aggregate-rises
 slice-aggregate-rises c = sym (length-take-le _ _ (within (c .before .before .before .before .before .before .before)))

@@ -1,5 +1,4 @@
 -- `find::Walker::good` meets its contract. Assumes nothing.
-use Rattle.rule.proofs.Facts.{positive, good-facts}
 use Rattle.find.proofs.Checks.{denied, granted}
 use Rattle.find.proofs.Walks.{tests-not, tests-all}
 use borrow.Author.Needs.{needs}
@@ -13,7 +12,7 @@ returns : tie.Need-returns
 returns c = tests-not _ (denied _ _ (c .before .good2 .ensures) (c .if1 .taken))
 
 has-level-requires : tie.Need-has-level-requires
-has-level-requires c κs = positive _ (good-facts _ (granted _ _ (c .before .good2 .ensures) (c .if1 .left)))
+has-level-requires c κs = search needs
 
 is-cell-requires : tie.Need-is-cell-requires
 is-cell-requires c κs = search needs

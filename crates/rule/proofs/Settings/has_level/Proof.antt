@@ -1,17 +1,16 @@
 -- `rule::Settings::has_level` meets its contract. Assumes nothing.
-use Prim.Native.Nat.{_<_, _^_}
-use Rattle.rule.proofs.Passing.{level-within}
+use mathlib.Core.Path.{ap}
+use Prim.Native.Nat.{ℕ}
+use lib.Dec.{leb}
 use borrow.Author.Needs.{needs}
 use Rattle.rule.proofs.Settings.has_level.Statement.{statement}
 use Rattle.rule.proofs.Settings.has_level.Tie as tie
 
-region-requires : tie.Need-region-requires
-region-requires c κs = search needs
+top-requires : tie.Need-top-requires
+top-requires c κs = search needs
 
 returns : tie.Need-returns
-returns c =
-    let low : c .before .args .self .p < 2 ^ 32 = search needs in
-    rw (c .region .ensures) (level-within (c .before .args .self) (c .before .args .level) (c .before .pre) low)
+returns c = ap (λ (t : ℕ). leb (c .before .args .level) t) (c .top .ensures)
 
 pub has-level-spec : {M : Type 1} → statement M
-has-level-spec = tie.close (tie.spec region-requires returns)
+has-level-spec = tie.close (tie.spec top-requires returns)

@@ -10,9 +10,12 @@ hash-requires c κs = search needs
 region-requires : tie.Need-region-requires
 region-requires c κs = search needs
 
+wide-requires : tie.Need-wide-requires
+wide-requires c κs = search needs
+
 returns : tie.Need-returns
 unfolding passes
-returns c = simp (c .before .hash .ensures, c .region .ensures)
+returns c = simp (c .before .before .hash .ensures, c .before .region .ensures, c .wide .ensures .0)
 
 pub passes-spec : {M : Type 1} → statement M
-passes-spec = tie.close (tie.spec hash-requires region-requires returns)
+passes-spec = tie.close (tie.spec hash-requires region-requires wide-requires returns)

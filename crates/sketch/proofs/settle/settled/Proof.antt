@@ -1,0 +1,153 @@
+-- `sketch::settle::settled` meets its contract. Assumes nothing.
+use Prim.Native.Nat.{_+_, _≤_}
+use mathlib.Core.Path.{_≡_, sym}
+use mathlib.Core.Bool.{Bool, true, false}
+use native.Mathlib.Omega.{arith}
+use denote.Ref.{now}
+use Rattle.rule.specs.Rule.{top}
+use Rattle.rule.specs.Samples.{fits}
+use Rattle.rule.proofs.Passing.{top-small}
+use Rattle.rule.proofs.Samples.{lowest-now}
+use Rattle.sketch.specs.Settling.{allOf}
+use Rattle.sketch.proofs.Settles.{zeros-sized, keeps-stored, stored-few, settle-now, settle-not, settle-room, settle-next, settle-fits}
+use borrow.Author.Needs.{needs}
+use Rattle.sketch.proofs.settle.settled.Statement.{statement}
+use Rattle.sketch.proofs.settle.settled.Tie as tie
+
+-- does all fit at this level?
+abbrev whole : tie.After-count-in → Bool
+whole c = let a = c .before .before .before .before .before .args in fits (a .settings) (allOf (now (a .front)) (now (a .back)) (a .lo) (a .hi)) (a .level)
+
+-- it does
+fitting : (c : tie.Then1) → whole (c .before) ≡ true
+fitting c = settle-now (c .before .before .before .before .before .before .pre .0) (c .before .count-in .ensures) (c .if1 .taken)
+
+-- it doesn't, so there is a level above it
+over : (c : tie.Else1) → whole (c .before) ≡ false
+over c = settle-not (c .before .before .before .before .before .before .pre .0) (c .before .count-in .ensures) (c .if1 .left)
+
+above : (c : tie.Else1) → c .before .before .before .before .before .before .args .level + 1 ≤ top
+    (c .before .before .before .before .before .before .args .settings)
+above c = settle-room (c .before .before .before .before .before .before .pre .0) (over c)
+
+cast-capacity : tie.Need-cast-capacity
+cast-capacity c = search needs
+
+count-in-requires : tie.Need-count-in-requires
+count-in-requires c κs = search needs
+
+cast-hits : tie.Need-cast-hits
+cast-hits c = search needs
+
+add-many : tie.Need-add-many
+add-many c = search needs
+
+add-many-2 : tie.Need-add-many-2
+add-many-2 c = search needs
+
+gathered-requires : tie.Need-gathered-requires
+gathered-requires c κs =
+    let start = c .before .before .before .before .before .before .before in
+    record { present = start .pre .0; counted = c .before .before .count-in .ensures; fit = fitting (c .before); room = zeros-sized _ (start .pre .1) }
+
+cast-count : tie.Need-cast-count
+cast-count c =
+    let then = c .before .before .before .before in
+    omega (
+      arith,
+      stored-few _ _ (c .before .before .gathered .ensures) (then .before .before .before .before .before .before .pre .0 .around .good)
+          (fitting then),
+    )
+
+same-length : tie.Need-same-length
+same-length c = search needs
+
+returns : tie.Need-returns
+returns c =
+    keeps-stored _ _ (c .before .before .gathered .ensures) _ (sym (lowest-now _ _ _ (fitting (c .before .before .before .before))))
+    (c .before .before .before .before .before .before .before .before .before .before .pre .1)
+
+add-guessed : tie.Need-add-guessed
+add-guessed c = omega (arith, above c, top-small _ (c .before .before .before .before .before .before .pre .0 .around .good))
+
+top-requires : tie.Need-top-requires
+top-requires c κs = search needs
+
+guessed-requires : tie.Need-guessed-requires
+guessed-requires c κs = (
+  omega (arith, above (c .before), c .top .ensures),
+  omega (arith, top-small _ (c .before .before .before .before .before .before .before .pre .0 .around .good), c .top .ensures),
+)
+
+add-raised : tie.Need-add-raised
+add-raised c = omega (arith, above (c .before .before), top-small _ (c .before .before .before .before .before .before .before .before .pre .0 .around .good))
+
+raised-requires : tie.Need-raised-requires
+raised-requires c κs = (
+  c .before .before .before .before .before .before .before .before .pre .0 .around,
+  omega
+      (arith, above (c .before .before), c .guessed .ensures, c .before .top .ensures),
+  omega (arith, c .guessed .ensures, c .before .top .ensures),
+)
+
+count-in-requires-2 : tie.Need-count-in-requires-2
+count-in-requires-2 c κs = search needs
+
+cast-left : tie.Need-cast-left
+cast-left c = search needs
+
+gathered-requires-2 : tie.Need-gathered-requires-2
+gathered-requires-2 c κs =
+    let start = c .before .before .before .before .before .before .before .before .before .before .before in
+    record {
+      present = start .pre .0;
+      counted = c .before .count-in2 .ensures;
+      fit = settle-fits (start .pre .0)
+          (over (c .before .before .before .before .before)) (c .before .before .raised .ensures);
+      room = zeros-sized _ (start .pre .1);
+    }
+
+cast-count-2 : tie.Need-cast-count-2
+cast-count-2 c =
+    let else = c .before .before .before .before .before .before .before .before in
+    let w = else .before .before .before .before .before .before .pre .0 in
+    omega (
+      arith,
+      stored-few _ _ (c .before .before .gathered2 .ensures) (w .around .good)
+          (settle-fits w (over else) (c .before .before .before .before .before .raised .ensures)),
+    )
+
+same-length-2 : tie.Need-same-length-2
+same-length-2 c = search needs
+
+returns-2 : tie.Need-returns-2
+returns-2 c =
+    let start = c .before .before .before .before .before .before .before .before .before .before .before .before .before .before in
+    keeps-stored _ _ (c .before .before .gathered2 .ensures) _
+    (settle-next (start .pre .0) (over (c .before .before .before .before .before .before .before .before))
+    (c .before .before .before .before .before .raised .ensures)) (start .pre .1)
+
+pub settled-spec : {M : Type 1} → statement M
+settled-spec =
+    tie.close
+    (tie.spec
+    cast-capacity
+    count-in-requires
+    cast-hits
+    add-many
+    add-many-2
+    gathered-requires
+    cast-count
+    same-length
+    returns
+    add-guessed
+    top-requires
+    guessed-requires
+    add-raised
+    raised-requires
+    count-in-requires-2
+    cast-left
+    gathered-requires-2
+    cast-count-2
+    same-length-2
+    returns-2)
