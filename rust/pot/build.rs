@@ -1,5 +1,5 @@
 //! Links the library `libhost.a`. It is looked for in `target/staticlib` of the
-//! folder above this package, or in the folder that POT_LIB_DIR names.
+//! repository, or in the folder that POT_LIB_DIR names.
 
 use std::env;
 use std::path::{Path, PathBuf};
@@ -11,7 +11,7 @@ fn main() {
     println!("cargo:rerun-if-changed={}", archive.display());
     assert!(
         archive.is_file(),
-        "no library at {}: run `rt staticlib host` in the folder above, or set POT_LIB_DIR",
+        "no library at {}: run `rt staticlib host` in the repository, or set POT_LIB_DIR",
         archive.display()
     );
     println!("cargo:rustc-link-search=native={}", folder.display());
@@ -23,7 +23,7 @@ fn library_folder() -> PathBuf {
         Some(folder) => PathBuf::from(folder),
         None => {
             let package = env::var_os("CARGO_MANIFEST_DIR").expect("cargo sets it");
-            Path::new(&package).join("../target/staticlib")
+            Path::new(&package).join("../../target/staticlib")
         }
     }
 }

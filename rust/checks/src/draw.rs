@@ -1,7 +1,7 @@
 //! Fixed pseudo-random numbers (splitmix64): the same seed draws the same
 //! numbers everywhere.
 
-use crate::peer::{Settings, LARGEST_N, PLACES};
+use crate::shape::{Settings, LARGEST_N, PLACES};
 
 /// A stream of numbers that depends only on its seed.
 #[derive(Clone, Debug)]

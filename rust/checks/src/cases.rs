@@ -1,9 +1,10 @@
 //! Settings, stretches, sketches, forgeries and damaged images that the tests
-//! of both the peer and the library run through.
+//! run through.
 
 use crate::draw::Draw;
 use crate::naive::{self, Pot};
-use crate::peer::{Settings, Sketch, BLOCK_BYTES, LARGEST_IMAGE, LARGEST_N, PLACES};
+use crate::shape::{Settings, Sketch, BLOCK_BYTES, LARGEST_IMAGE, LARGEST_N, PLACES};
+use crate::version::Version;
 use std::collections::BTreeSet;
 
 /// The settings Q of the kitchen tests.
@@ -15,24 +16,26 @@ pub const Q: Settings = Settings {
     capacity: 16,
 };
 
+/// Settings of the largest kitchen.
+pub const LARGEST: Settings = Settings {
+    n: LARGEST_N,
+    p: 3_999_999_979,
+    a: 2_718_281_828,
+    b: 3_141_592_653,
+    capacity: 504,
+};
+
 /// The stream of a seed, which it prints.
 pub fn drawing(seed: u64) -> Draw {
     println!("seed {seed}");
     Draw::new(seed)
 }
 
-fn greatest_common_divisor(a: u32, p: u32) -> u32 {
-    if a == 0 {
-        p
-    } else {
-        greatest_common_divisor(p % a, a)
-    }
-}
-
 /// All good settings of a kitchen with n cells.
 pub fn all_settings(n: u32, capacity: u32) -> impl Iterator<Item = Settings> {
     (10 * n..=20 * n).flat_map(move |p| {
-        let coprime = (1..p).filter(move |&a| greatest_common_divisor(a, p) == 1);
+        let coprime =
+            (1..p).filter(move |&a| naive::greatest_common_divisor(a.into(), p.into()) == 1);
         coprime.flat_map(move |a| {
             (0..p).map(move |b| Settings {
                 n,
@@ -127,11 +130,34 @@ fn up_to_about(draw: &mut Draw, p: u32) -> u32 {
     }
 }
 
-/// The image of a sketch, from the peer.
-pub fn image_of(sketch: &Sketch) -> Vec<u8> {
+/// The passing cells that a walker gives before its first none.
+pub fn walk_all<V: Version>(settings: &Settings, level: u32, lo: u32, hi: u32) -> Vec<u32> {
+    let mut walker = V::walker(settings, level, lo, hi).unwrap();
+    let mut cells = Vec::new();
+    loop {
+        let (hit, after) = V::step(&walker);
+        let Some(cell) = hit.unwrap() else {
+            assert_eq!(after, walker);
+            return cells;
+        };
+        walker.position = cell + 1;
+        assert_eq!(after, walker);
+        cells.push(cell);
+    }
+}
+
+/// The image of a sketch.
+pub fn image_of<V: Version>(sketch: &Sketch) -> Vec<u8> {
     let mut room = [0; LARGEST_IMAGE];
-    let length = sketch.write(&mut room).unwrap();
+    let length = V::write(sketch, &mut room).unwrap();
     room[..length].to_vec()
+}
+
+/// A number for a place: near to what stands there, at the ends, or any.
+pub fn forged_number(draw: &mut Draw, present: u32) -> u32 {
+    let any = draw.bits() as u32;
+    let near = [present.wrapping_sub(1), present.wrapping_add(1)];
+    draw.choose(&[0, 1, near[0], near[1], any, u32::MAX])
 }
 
 /// A few changes to a good sketch, some of which leave it good.

@@ -1,6 +1,6 @@
-//! The program potcount of document 01, with the peer.
+//! The program potcount (RULES: Program), with the peer.
 
-use pot_tests::peer::Potcount;
+use checks::peer::Potcount;
 use std::io::{self, Read, Write};
 
 fn main() -> io::Result<()> {

@@ -1,0 +1,69 @@
+//! What the calls are timed on, in the types of the peer and of the library.
+
+use checks::cases::LARGEST;
+use checks::draw::Draw;
+use checks::shape::{Settings, Sketch, LARGEST_N};
+
+/// The settings with another a and b, so that figures don't hang on one fold.
+fn typical_settings(draw: &mut Draw) -> Settings {
+    loop {
+        let settings = Settings {
+            a: draw.from_to(1, LARGEST.p - 1),
+            b: draw.from_to(0, LARGEST.p - 1),
+            ..LARGEST
+        };
+        if settings.check().is_ok() {
+            return settings;
+        }
+    }
+}
+
+/// Settings in the types of the peer and of the library.
+pub type BothSettings = (Settings, pot::Settings);
+
+pub fn both_settings(draw: &mut Draw) -> BothSettings {
+    let settings = typical_settings(draw);
+    (settings, settings.for_library())
+}
+
+pub fn stretch(draw: &mut Draw, cells: u32) -> (u32, u32) {
+    let lo = draw.from_to(1, LARGEST_N - cells + 1);
+    (lo, lo + cells - 1)
+}
+
+/// A sketch in the types of the peer and of the library.
+pub type BothSketches = (Sketch, pot::Sketch);
+
+pub fn both_sketches(sketch: Sketch) -> BothSketches {
+    let library = pot::Sketch::try_from(sketch.row());
+    (sketch, library.expect("a sketch"))
+}
+
+pub fn empty() -> Sketch {
+    Sketch::open(LARGEST).expect("good settings")
+}
+
+/// 250 cells at level 0, far from each other.
+pub fn exact_sketch() -> Sketch {
+    (1..=250).fold(empty(), |sketch, i| {
+        let cell = i * (LARGEST_N / 250);
+        sketch.add(cell, cell).expect("a cell in 1..n")
+    })
+}
+
+/// The sketch of half of all cells, at a high level.
+pub fn high_sketch() -> Sketch {
+    empty().add(1, LARGEST_N / 2).expect("a good stretch")
+}
+
+pub fn shown(sketch: &Sketch) -> String {
+    match sketch.count {
+        0 => "an empty sketch".to_string(),
+        count => format!("{count} cells at level {}", sketch.level),
+    }
+}
+
+/// As many cells as the capacity.
+pub fn largest_sample() -> Sketch {
+    empty().add(1, LARGEST.capacity).expect("a good stretch")
+}

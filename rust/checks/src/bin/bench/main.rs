@@ -1,0 +1,53 @@
+//! Times the library beside the peer, and beside a version that tests each
+//! cell, in the largest kitchen. Prints a table of nanoseconds a call.
+//!
+//! With the path of a potcount program as argument it also prints how many
+//! lines a second that program and the peer's answer.
+
+mod arguments;
+mod calls;
+mod potcount;
+mod timing;
+
+use calls::{time_adds, time_counts, time_images, time_merges, time_next_hits, time_walkers};
+use checks::draw::Draw;
+use potcount::time_potcount;
+use std::env;
+use std::io;
+use std::process::Command;
+
+const SEED: u64 = 2_025;
+
+const NOTES: &str = "\
+n 200,000,000, capacity 504; nanoseconds a call, the mean over 500 arguments in
+groups of 25, each group's best of 15 rounds. Library and peer take turns, group
+by group, over the same arguments. Each of their calls checks its settings, and
+its whole sketch if it has one; the version that tests each cell checks neither,
+has fewer arguments and takes the best of 2 rounds.
+Levels: low 1, middle 12, high 26.
+Buffers: the row of a sketch is not cleared before a call. Before each add and
+merge it is a fresh copy of the same sketch, and that copy is timed, for library
+and peer alike. The row that a read fills is cleared before each call, and that is
+timed too. The room for images is cleared once, before the first round, and not
+between calls. Images to read were written before. Library and peer allocate
+nothing in a timed call.
+";
+
+fn main() -> io::Result<()> {
+    println!("seed {SEED}\n{NOTES}");
+    println!(
+        "{:<50} {:>10} {:>10} {:>9} {:>13} {:>11}",
+        "", "library", "peer", "lib/peer", "each cell", "each/lib"
+    );
+    let mut draw = Draw::new(SEED);
+    time_counts(&mut draw);
+    time_next_hits(&mut draw);
+    time_walkers();
+    time_adds(&mut draw);
+    time_merges(&mut draw);
+    time_images();
+    match env::args_os().nth(1) {
+        Some(program) => time_potcount(&mut draw, Command::new(program)),
+        None => Ok(()),
+    }
+}

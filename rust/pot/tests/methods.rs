@@ -1,0 +1,111 @@
+//! The methods as somebody who depends on them meets them. What the calls behind
+//! them answer is tested in `checks`, against other versions.
+
+use pot::{calls, Estimate, Refusal, Settings, Sketch, LARGEST_IMAGE};
+use std::error::Error;
+
+const Q: Settings = Settings {
+    n: 10,
+    p: 101,
+    a: 37,
+    b: 5,
+    capacity: 16,
+};
+
+fn sketch_of(cells: std::ops::RangeInclusive<u32>) -> Sketch {
+    let mut sketch = Sketch::open(Q).unwrap();
+    sketch.add(cells).unwrap();
+    sketch
+}
+
+#[test]
+fn a_sketch_shows_its_parts() {
+    let sketch = sketch_of(3..=5);
+    assert_eq!(sketch.settings(), Q);
+    assert_eq!((sketch.level(), sketch.cells()), (0, &[3, 4, 5][..]));
+    assert_eq!(sketch.estimate(), Estimate::Exact(3));
+    let shown = format!("{sketch:?}");
+    assert!(shown.ends_with("level: 0, cells: [3, 4, 5] }"), "{shown}");
+}
+
+#[test]
+fn estimates_say_which_kind_they_are() {
+    let mut sketch = Sketch::open(Settings { capacity: 3, ..Q }).unwrap();
+    sketch.add(1..=4).unwrap();
+    assert_eq!(sketch.estimate(), Estimate::About(4.0));
+    assert_eq!(sketch.estimate().to_string(), "about 4");
+    assert_eq!(sketch_of(1..=4).estimate().to_string(), "4");
+    assert_eq!(sketch_of(1..=4).estimate().value(), 4.0);
+}
+
+#[test]
+fn a_refusal_changes_nothing() {
+    let mut sketch = sketch_of(2..=7);
+    let before = sketch.clone();
+    let other = Sketch::open(Settings { b: 6, ..Q }).unwrap();
+    assert_eq!(sketch.merge(&other), Err(Refusal::Unequal));
+    assert_eq!(sketch.add(0..=3), Err(Refusal::BadRange));
+    // Just what a call with lo above hi would be.
+    #[allow(clippy::reversed_empty_ranges)]
+    let backward = 4..=3;
+    assert_eq!(sketch.add(backward), Err(Refusal::BadRange));
+    let mut room = [0xA5; LARGEST_IMAGE];
+    assert_eq!(sketch.write(&mut room[..1_023]), Err(Refusal::NoRoom));
+    assert_eq!((sketch, room), (before, [0xA5; LARGEST_IMAGE]));
+}
+
+#[test]
+fn merges_are_the_same_in_any_order() {
+    let [mut one, mut two] = [sketch_of(1..=4), sketch_of(3..=9)];
+    let first = one.clone();
+    one.merge(&two).unwrap();
+    two.merge(&first).unwrap();
+    assert_eq!(one, two);
+    one.merge(&two).unwrap();
+    assert_eq!((one, two), (sketch_of(1..=9), sketch_of(1..=9)));
+}
+
+#[test]
+fn images_and_rows_come_back() {
+    let sketch = sketch_of(1..=10);
+    let mut image = sketch.to_image();
+    assert_eq!(image.len(), 1_024);
+    assert_eq!(Sketch::try_from(&image[..]).unwrap(), sketch);
+    assert_eq!(Sketch::try_from(*sketch.as_row()).unwrap(), sketch);
+    image[700] ^= 1;
+    let damaged = Sketch::try_from(&image[..]);
+    assert_eq!(damaged, Err(Refusal::BadCheck { block: 1 }));
+    assert_eq!(Sketch::try_from(&[][..] as &[u8]), Err(Refusal::BadImage));
+    assert_eq!(Sketch::try_from([0; calls::SKETCH]), Err(Refusal::NotOne));
+}
+
+#[test]
+fn settings_calls_are_refused_by_cause() {
+    let bad = Settings { a: 0, ..Q };
+    assert_eq!(bad.count(7, 0..=11), Err(Refusal::BadSettings));
+    assert_eq!(Q.count(7, 0..=11), Err(Refusal::BadLevel));
+    assert_eq!(Q.count(6, 0..=11), Err(Refusal::BadRange));
+    assert_eq!(bad.next_hit(7, 0), Err(Refusal::BadSettings));
+    assert_eq!(Q.walk(7, 1..=10), Err(Refusal::BadLevel));
+    assert_eq!(Q.walk(1, 1..=11), Err(Refusal::BadRange));
+}
+
+#[test]
+fn a_walker_is_an_iterator_that_ends_for_ever() {
+    let mut walker = Q.walk(1, 2..=8).unwrap();
+    assert_eq!(walker.by_ref().collect::<Vec<_>>(), [3, 6]);
+    assert_eq!((walker.next(), walker.next()), (None, None));
+    let tens: Vec<u32> = Q.walk(0, 1..=10).unwrap().map(|cell| 10 * cell).collect();
+    assert_eq!(tens, [10, 20, 30, 40, 50, 60, 70, 80, 90, 100]);
+}
+
+#[test]
+fn refusals_have_numbers_and_words() {
+    for number in 1..=8 {
+        let refusal = Refusal::from_number(number, 3).unwrap();
+        assert_eq!(refusal.number(), number);
+        let error: Box<dyn Error> = refusal.into();
+        assert_eq!(error.to_string().contains('3'), number == 7, "{error}");
+    }
+    assert_eq!(Refusal::from_number(9, 0), None);
+}
