@@ -1,6 +1,6 @@
 -- What a line does to the pot: nothing, unless it is an S or an A that is answered.
 --     changed         the sketch that a command opens or adds to, if any
---     ReplyLeaves          a reply where there is such a sketch, and where there is none
+--     ReplyLeaves     a reply where there is such a sketch, and where there is none
 --     reply-leaves    every reply is so, whatever the pot and the line
 --     reply-keeps     any answer but `K level cells` leaves the pot as it was
 -- Assumes nothing.

@@ -23,7 +23,7 @@ use Rattle.rule.specs.Refusals.{Paper, answered, refused, unless, badSettings, 
 use Rattle.rule.proofs.Facts.{facts-good}
 use Rattle.rule.proofs.Readings.{written-one, taken-one}
 use Rattle.find.proofs.Checks.{unless-told}
-use Rattle.block.specs.Little.{Bytes, numberOf}
+use Rattle.block.specs.Little.{Bytes, numberOf, numberAt}
 use Rattle.block.specs.Sums.{blockGood}
 use Rattle.block.proofs.Blocks.{sealed-good}
 use Rattle.sketch.specs.declared.Sketch.{Sketch}
@@ -36,7 +36,7 @@ use Rattle.image.specs.Calls.{rightLength, marked, isImage, readMarked, 
 use Rattle.image.proofs.Bodies.{head-length, head-mark, head-settings, head-level, head-count}
 use Rattle.image.proofs.Chains.{made-cells, made-good, block-next}
 use Rattle.image.proofs.Limits.{few, narrow, low, fours}
-use Rattle.image.proofs.Spelling.{image-length, image-small, image-front, image-rest}
+use Rattle.image.proofs.Spelling.{mark-bytes, image-length, image-small, image-front, image-rest}
 
 -- a search that finds nothing
 least-none : (q : ℕ → Bool) (k m : ℕ) → ((j : ℕ) → m ≤ j → j < m + k → q j ≡ false) → least q k m ≡ m + k
@@ -107,9 +107,15 @@ module _ (k : Sketch) (w : Sound k) where
   unfolding firstWrong
   none-wrong = least-none (λ i. not (blockGood (blockAt i (imageOf k)))) (blocksIn (imageOf k)) 0 (λ j a b. ap not (all-good j (omega arith))) ∙ omega arith
 
+  says-mark : numberAt 4 0 (imageOf k) ≡ mark
+  unfolding mark numberOf imageOf imageWith
+  says-mark = head-mark mark [] (k .settings) (k .level) (length xs) (cellBlocks (blocksFor (length xs)) 1 xs) (lit< tt)
+
   begins : marked (imageOf k) ≡ true
-  unfolding marked mark numberOf imageOf imageWith
-  begins = eq-eqb _ _ (head-mark mark [] (k .settings) (k .level) (length xs) (cellBlocks (blocksFor (length xs)) 1 xs) (lit< tt))
+  unfolding marked imageOf
+  begins =
+      let n : length (imageOf k) ≡ 512 * (1 + blocksFor (length xs)) = whole in
+      sym (mark-bytes (imageOf k) (image-bytes k) (omega arith)) ∙ eq-eqb (numberAt 4 0 (imageOf k)) mark says-mark
 
   is-image : isImage (imageOf k) ≡ true
   unfolding isImage

@@ -4,16 +4,17 @@
 --     all-length, spelled-parts, spelled-image     the sketch that bytes spell, and its image
 --     rights          no check is wrong
 --     shaped-back, shaped-made    bytes with right checks have the shape just when they are the image of what they say
+--     mark-bytes      the mark as four bytes, and as a number
 --     shaped-same     so with the mark they are the image of the sketch that they spell
 -- Assumes nothing.
-use Prim.Native.Nat.{ℕ, suc, _+_, _*_, _-_, _<_, _≤_}
+use Prim.Native.Nat.{ℕ, suc, _+_, _*_, _-_, _^_, _<_, _≤_}
 use mathlib.Core.Path.{_≡_, refl, sym, ap, ap₂, _∙_}
 use mathlib.Core.Bool.{Bool, true, not, _&&_, and-eq-true-iff}
 use mathlib.Core.Logic.{⊎-elim}
 use mathlib.Core.List.{List, [], _∷_, _++_}
 use native.Mathlib.Omega.{arith}
 use lib.ListN.{length, take, drop, replicate, length-append, length-drop, take-append-drop}
-use lib.Dec.{eqb, lit≤}
+use lib.Dec.{eqb, lit≤, lit<}
 use Prim.{tt}
 use lib.Seq.{take-at, drop-at, length-take-le, take-all, take-append-seam, take-append-le, drop-append-le}
 use borrow.Author.Tests.{eqb-true, eq-eqb, not-false}
@@ -23,9 +24,9 @@ use Rattle.lists.proofs.Tests.{same-test, tested}
 use Rattle.lists.proofs.Searches.{least-least}
 use Rattle.lists.proofs.Same.{same-true, same-self}
 use Rattle.rule.specs.declared.Settings.{Settings}
-use Rattle.block.specs.Little.{Bytes, numberAt}
+use Rattle.block.specs.Little.{Bytes, bytesOf, numberOf, numberAt}
 use Rattle.block.specs.Sums.{blockGood, sealed}
-use Rattle.block.proofs.Numbers.{append-small, take-small, drop-small, number-front}
+use Rattle.block.proofs.Numbers.{append-small, take-small, drop-small, number-bytes, bytes-number, number-front}
 use Rattle.block.proofs.Blocks.{sealed-length, sealed-small}
 use Rattle.sketch.specs.Sketches.{held, sketchAt, cellsOf}
 use Rattle.image.specs.Images.{mark, fieldsEnd, headWith, blocksFor, cellBlocks, imageWith, imageAs}
@@ -169,11 +170,25 @@ module _ (s : List ℕ) (b : Blocks s) (small : Bytes s) (right : firstWrong s �
       (ap₂ _&&_ (ap (λ x. allZero (span (fieldsEnd + length tail) 508 x)) e ∙ image-zeros _ tail _ _ (allCells s) fits)
       (ap (blocksShaped m 1 (saidCount s)) rest ∙ made-shaped m 1 (saidCount s) (allCells s) (all-length s) (omega (arith, b .few))))
 
+mark-small : mark < 256 ^ 4
+unfolding mark numberOf
+mark-small = lit< tt
+
+-- bytes begin with those of the mark just where they begin with its number
+pub mark-bytes : (s : List ℕ) → Bytes s → 4 ≤ length s → eqb (numberAt 4 0 s) mark ≡ same (take 4 s) (bytesOf 4 mark)
+mark-bytes s b l =
+    let n : length (take 4 s) ≡ 4 = length-take-le 4 s l in
+    let back : bytesOf 4 (numberAt 4 0 s) ≡ take 4 s =
+    ap (λ k. bytesOf k (numberAt 4 0 s)) (sym n) ∙ bytes-number (take 4 s) (take-small 4 s b) in
+    same-test _ _
+    (λ e. ap (λ t. same t (bytesOf 4 mark)) (sym back ∙ ap (bytesOf 4) (eqb-true (numberAt 4 0 s) mark e)) ∙ same-self (bytesOf 4 mark))
+    (λ e. eq-eqb (numberAt 4 0 s) mark (ap numberOf (same-true (take 4 s) (bytesOf 4 mark) e) ∙ number-bytes 4 mark mark-small))
+
 -- with the mark, and nothing after the fields: they are the image of the sketch that they spell
 pub shaped-same : (s : List ℕ) → Checked s → shaped fieldsEnd s ≡ same s (imageOf (spelled s))
 unfolding marked
 shaped-same s c =
-    let begins : numberAt 4 0 s ≡ mark = eqb-true (numberAt 4 0 s) mark (c .mark) in
+    let begins : numberAt 4 0 s ≡ mark = eqb-true (numberAt 4 0 s) mark (mark-bytes s (c .bytes) (omega (arith, c .blocks .some)) ∙ c .mark) in
     let is : imageWith (numberAt 4 0 s) [] (saidSettings s) (saidLevel s) (allCells s) ≡ imageOf (spelled s) =
     ap (λ m. imageWith m [] (saidSettings s) (saidLevel s) (allCells s)) begins ∙ sym (spelled-image s) in
     same-test _ _

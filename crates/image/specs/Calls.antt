@@ -4,14 +4,14 @@ use mathlib.Core.Path.{_≡_}
 use mathlib.Core.Bool.{Bool, true, cond, _&&_}
 use mathlib.Core.List.{List, [], _∷_}
 use lib.Dec.{leb, ltb, eqb}
-use lib.ListN.{length}
+use lib.ListN.{length, take}
 use Rattle.lists.specs.Lists.{same}
 use Rattle.lists.specs.Rows.{placed}
 use Rattle.rule.specs.declared.answers.Written.{Written}
 use Rattle.rule.specs.declared.answers.Taken.the-variants.{Refused}
 use Rattle.rule.specs.Rule.{isGood, noSettings}
 use Rattle.rule.specs.Refusals.{Paper, answered, refused, unless, badSettings, notOne, noRoom, badCheck, badImage, ofWritten, ofTaken}
-use Rattle.block.specs.Little.{Bytes, numberAt}
+use Rattle.block.specs.Little.{Bytes, bytesOf}
 use Rattle.sketch.specs.declared.Sketch.{Sketch}
 use Rattle.sketch.specs.Sketches.{held, isSketch}
 use Rattle.sketch.specs.Calls.{noSketch, handed}
@@ -20,7 +20,7 @@ use Rattle.image.specs.declared.Header.{Header}
 use Rattle.image.specs.Images.{mark, imageOf, saidSettings, spelled}
 use Rattle.image.specs.Shapes.{Blocks, blocksIn, firstWrong}
 
--- RULES: Refusals
+-- what writing answers to a room of so many bytes: 4, 6, or the image's length (RULES: Refusals)
 unfoldable pub writeOn : Sketch → ℕ → Paper
 writeOn k room = unless (isSketch k) notOne (unless (leb (length (imageOf k)) room) noRoom (answered (length (imageOf k) ∷ [])))
 
@@ -38,9 +38,9 @@ pub record Writes (k : Sketch) (room : List ℕ) (r : Written) (after : List ℕ
 unfoldable pub rightLength : ℕ → Bool
 rightLength n = leb 1 n && (leb n 2560 && eqb (n % 512) 0)
 
--- the image begins with the mark
+-- the image begins with the four bytes of the mark
 unfoldable pub marked : List ℕ → Bool
-marked s = eqb (numberAt 4 0 s) mark
+marked s = same (take 4 s) (bytesOf 4 mark)
 
 -- what is known of bytes once the checks and the mark are right
 pub record Checked (s : List ℕ) : Type 0 where
@@ -57,7 +57,7 @@ isImage s = isSketch (spelled s) && same s (imageOf (spelled s))
 unfoldable pub readMarked : List ℕ → Paper
 readMarked s = unless (isGood (saidSettings s)) badSettings (unless (isImage s) badImage (answered []))
 
--- RULES: Refusals
+-- what reading answers: 8 for the length, 7 with its block, 8 for the mark, 1, 8 for all else (RULES: Refusals)
 unfoldable pub readOn : List ℕ → Paper
 readOn s =
     unless (rightLength (length s)) badImage

@@ -1,27 +1,8 @@
 // Prints one image of each length, 512 to 2,560 bytes, and one of a sample above level 0, as hex. What it must print was worked
 // out by tests/images.py, which shares nothing with the library.
-use rule::Settings;
 use rule::answers::Written;
-use sketch::Sketch;
 
 const OUT: i32 = 1;
-
-// The sketch that saw 1..last.
-fn seen(last: u32) -> Sketch {
-    let opened = Sketch::open(Settings {
-        n: 200000,
-        p: 2000003,
-        a: 1234567,
-        b: 89,
-        capacity: 504,
-    });
-    if last == 0 {
-        return opened.sketch;
-    }
-    let k = opened.sketch;
-    let added = k.add(1, last);
-    added.sketch
-}
 
 fn wide(x: u8) -> u64 {
     x as u64
@@ -50,7 +31,7 @@ fn print_image(last: u32) {
     io::write_all(OUT, b"cells seen: ");
     io::print_decimal(OUT, last as u64);
     io::write_all(OUT, b"\n");
-    match image::write(seen(last), &mut room) {
+    match image::write(seen::up_to(last), &mut room) {
         Written::Length(n) => {
             if n <= 2560 {
                 print_lines(&room[..n]);

@@ -2,7 +2,6 @@
 ghost use mathlib.Core.Path.{_≡_};
 ghost use Prim.Native.Nat.{_+_, _%_, _<_, _≤_};
 ghost use lib.ListN.{length};
-use crate::seen;
 use crate::words::number;
 use crate::words::print_taken;
 use crate::words::print_yes;
@@ -99,7 +98,7 @@ fn two_changed(what: &[u8], mut full: [u8; 2560], at: usize, x: u32, then: usize
 // 127 cells as 125 and 2, not as 126 and 1: cell 126 goes from block 1 to block 2.
 pub fn read_not_full() {
     let mut room = [0u8; 1536];
-    written(seen(127), &mut room);
+    written(seen::up_to(127), &mut room);
     reseal(&mut room, 514, 125);
     reseal(&mut room, 1016, 0);
     reseal(&mut room, 1026, 2);
@@ -112,7 +111,7 @@ pub fn read_not_full() {
 // A full image: five blocks.
 pub fn full_image() -> [u8; 2560] {
     let mut room = [0u8; 2560];
-    written(seen(504), &mut room);
+    written(seen::up_to(504), &mut room);
     room
 }
 
@@ -120,7 +119,7 @@ pub fn full_image() -> [u8; 2560] {
 // too, but the length is looked at first.
 pub fn read_torn() {
     let mut room = [165u8; 3072];
-    written(seen(504), &mut room);
+    written(seen::up_to(504), &mut room);
     first_bytes(&room[0..0]);
     first_bytes(&room[0..511]);
     first_bytes(&room[0..513]);

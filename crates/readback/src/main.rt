@@ -1,5 +1,4 @@
 // Writes images and reads them back, then reads torn and damaged ones. Each line says what was answered.
-use rule::Settings;
 use rule::answers::Written;
 use sketch::Sketch;
 
@@ -10,23 +9,6 @@ use words::number;
 use words::print_taken;
 use words::print_yes;
 use words::text;
-
-// The sketch that saw 1..last.
-fn seen(last: u32) -> Sketch {
-    let opened = Sketch::open(Settings {
-        n: 200000,
-        p: 2000003,
-        a: 1234567,
-        b: 89,
-        capacity: 504,
-    });
-    if last == 0 {
-        return opened.sketch;
-    }
-    let k = opened.sketch;
-    let added = k.add(1, last);
-    added.sketch
-}
 
 // The length of the image; 0 where it was refused.
 fn written(k: Sketch, room: &mut [u8]) -> usize {
@@ -103,7 +85,7 @@ fn print_read(k: Sketch, bytes: &[u8]) {
 
 // Writes an image and reads it back.
 fn back(last: u32) {
-    let k = seen(last);
+    let k = seen::up_to(last);
     let mut room = [165u8; 2560];
     let n = written(k, &mut room);
     print_sizes(last as usize, n);

@@ -38,7 +38,7 @@ floatFor k = ofInt binary64 (pos (standsFor k))
 abbrev pub weightOf : Sketch → Weight
 weightOf k = cond (eqb (k .level) 0) (exactly (k .count)) (about (floatFor k))
 
--- 4 where it isn't a sketch (RULES: Estimate)
+-- that weight, or 4 where it isn't a sketch (RULES: Estimate)
 unfoldable pub estimateOn : Sketch → Outcome Weight
 estimateOn k = unless (isSketch k) notOne (answered (weightOf k))
 

@@ -21,8 +21,8 @@ slice-aggregate-write-all-2 c = search needs
 write-all-requires-2 : tie.Need-write-all-requires-2
 write-all-requires-2 c κs = search needs
 
-seen-requires : tie.Need-seen-requires
-seen-requires c κs = search needs
+up-to-requires : tie.Need-up-to-requires
+up-to-requires c κs = search needs
 
 slice-aggregate-write : tie.Need-slice-aggregate-write
 slice-aggregate-write c = search needs
@@ -63,7 +63,7 @@ print-image-spec =
     print-decimal-requires
     slice-aggregate-write-all-2
     write-all-requires-2
-    seen-requires
+    up-to-requires
     slice-aggregate-write
     write-requires
     enum-known-n
