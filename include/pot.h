@@ -59,7 +59,7 @@
  * above level 0 misleads: with a = 1, say, the cells of a short stretch pass all together or not at all.
  *
  * What a call costs. No heap, no memory of its own, no system call. POT_STACK bytes of stack do for every
- * call; measured on x86-64 (tests/stack.c), pot_merge uses under 11,000, pot_add under 3,600 and every
+ * call; measured on x86-64 (tests/stack.c), pot_merge uses under 5,000, pot_add under 3,600 and every
  * other call under 1,024. The library is under 20,000 bytes of code and constants.
  */
 #ifndef POT_H
@@ -79,7 +79,7 @@ extern "C" {
 #define POT_WALKER 8
 #define POT_PLACES 504
 #define POT_IMAGE 2560
-#define POT_STACK 12288
+#define POT_STACK 6144
 
 /* The places of the settings, which stand first in every row. */
 #define POT_N 0

@@ -56,7 +56,7 @@ static const struct {
 } calls[] = {
     {"pot_open", open_it, 1024},
     {"pot_add", add_it, 3600},
-    {"pot_merge", merge_them, 11000},
+    {"pot_merge", merge_them, 5000},
     {"pot_estimate", estimate_it, 1024},
     {"pot_count", count_them, 1024},
     {"pot_next_hit", find_it, 1024},

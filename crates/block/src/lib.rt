@@ -11,7 +11,7 @@ const WORDS: usize = 254;
 
 const MODULUS: u32 = 65535;
 
-const PLAIN: usize = 508;
+pub const PLAIN: usize = 508;
 
 const WEIGHTED: usize = 510;
 

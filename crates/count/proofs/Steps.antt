@@ -10,7 +10,8 @@ use borrow.Author.Tests.{eqb-true}
 use Rattle.count.specs.declared.Rounds.{Rounds}
 use Rattle.count.specs.Hits.{hit, hitsUp, hitsDown, Takes}
 use Rattle.count.specs.Cuts.{Cut}
-use Rattle.count.proofs.Laws.{hit-min, hits-few, hits-rounds, rounds-few, hits-turn, hits-none, hits-zero}
+use Rattle.count.proofs.Laws.{hit-min, hits-few, hits-turn, hits-none, hits-zero}
+use Rattle.count.proofs.Folds.{hits-rounds, rounds-few}
 
 -- what the functions multiply fits
 pub wide : (a b : ℕ) → a ≤ 4000000000 → b ≤ 200000000 → a * b ≤ 4000000000 * 200000000

@@ -35,9 +35,9 @@ Cause [] number place = ⊥
 Cause (r ∷ rs) number place = ((r .holds ≡ false) × (number ≡ r .number) × (place ≡ r .place)) ⊎ ((r .holds ≡ true) × Cause rs number place)
 
 -- all rules are kept
-abbrev pub Kept : List Rule → Type 0
-Kept [] = Unit {0}
-Kept (r ∷ rs) = (r .holds ≡ true) × Kept rs
+abbrev pub Obeyed : List Rule → Type 0
+Obeyed [] = Unit {0}
+Obeyed (r ∷ rs) = (r .holds ≡ true) × Obeyed rs
 
 -- a refusal for a cause
 pub record Refusal {Told : Type 0} (outcome : Outcome Told) (rules : List Rule) : Type 0 where
@@ -49,7 +49,7 @@ pub record Refusal {Told : Type 0} (outcome : Outcome Told) (rules : List Rule) 
 -- an outcome that is lawful under the rules (RULES: Demands)
 pub record Lawful {Told : Type 0} (outcome : Outcome Told) (rules : List Rule) (told : Told) : Type 0 where
   -- every input has an answer: it tells this where all rules are kept, and otherwise it is a refusal for a cause
-  pub always : (Kept rules × (outcome ≡ answered told)) ⊎ Refusal outcome rules
+  pub always : (Obeyed rules × (outcome ≡ answered told)) ⊎ Refusal outcome rules
   -- a refusal's number implies its cause
   pub only : (number place : ℕ) → outcome ≡ refused number place → Cause rules number place
   -- a cause, with no earlier one, implies the refusal

@@ -19,7 +19,7 @@ use Rattle.evening.specs.declared.Pot.{Pot}
 use Rattle.evening.specs.declared.Evening.{Evening}
 use Rattle.evening.specs.declared.Told.{Told}
 use Rattle.evening.specs.Replies.{Tells, Sits, replyOf}
-use Rattle.evening.specs.Runs.{Run, Sitting, lineOf, lengthened, ended, step, after, fed, takes, Feeds, rest}
+use Rattle.evening.specs.Runs.{Run, Sitting, lineOf, lengthened, lineEnded, step, after, fed, takes, Feeds, rest}
 use Rattle.evening.proofs.Staying.{reply-sits, lengthened-sits}
 
 after-after : (a b c : Run) → after a (after b c) ≡ after (after a b) c
@@ -62,7 +62,7 @@ takes-none : (room : ℕ) (s : Evening) → takes room s [] ≡ 0
 unfolding takes
 takes-none room s = refl
 
-step-newline : (s : Evening) (x : ℕ) → x ≡ 10 → step s x ≡ ended s
+step-newline : (s : Evening) (x : ℕ) → x ≡ 10 → step s x ≡ lineEnded s
 unfolding step
 step-newline s x e = rw (eq-eqb x 10 e)
 

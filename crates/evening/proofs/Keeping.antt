@@ -26,7 +26,7 @@ use Rattle.line.specs.declared.commands.Command.the-variants as command
 use Rattle.line.specs.Lines.{commandOf}
 use Rattle.line.specs.Texts.{textKept}
 use Rattle.evening.specs.declared.Pot.{Pot}
-use Rattle.evening.specs.Replies.{Reply, says, estimateText, countText, cellText, replied, whenOpen, openReply, addReply, replyTo, replyOf}
+use Rattle.evening.specs.Replies.{Reply, estimateText, countText, cellText, whenOpen, told, openReply, addReply, replyTo, replyOf}
 
 abbrev pub changed : Pot → Command → Option Sketch
 -- S with good settings
@@ -73,13 +73,12 @@ add-leaves pot lo hi =
     (tested (pot .opened))
 
 -- E, C and N: whatever the paper, no answer is `K level cells`
-module _ (pot : Pot) (text : List ℕ → List ℕ) (other : (values : List ℕ) → beginsK (text values) ≡ false) where
-  replied-leaves : (paper : Paper) → ReplyLeaves pot none (replied pot paper (λ values. says pot (text values)))
-  replied-leaves (answered values) = (other values, refl)
-  replied-leaves (refused number place) = (refl, refl)
+told-other : (paper : Paper) (text : List ℕ → List ℕ) → ((values : List ℕ) → beginsK (text values) ≡ false) → beginsK (told paper text) ≡ false
+told-other (answered values) text other = other values
+told-other (refused number place) text other = refl
 
-estimate-other : (k : Sketch) → beginsK (estimateText k) ≡ false
-estimate-other k = ⊎-elim (λ (e : eqb (k .level) 0 ≡ true). rw e) (λ (e : eqb (k .level) 0 ≡ false). rw e) (tested (eqb (k .level) 0))
+estimate-other : (level count : ℕ) → beginsK (estimateText level count) ≡ false
+estimate-other level count = ⊎-elim (λ (e : eqb level 0 ≡ true). rw e) (λ (e : eqb level 0 ≡ false). rw e) (tested (eqb level 0))
 
 cell-other : (values : List ℕ) → beginsK (cellText values) ≡ false
 cell-other [] = refl
@@ -90,11 +89,13 @@ unfolding replyTo
 command-leaves pot (command.Settings n p a b capacity) = open-leaves pot (record { n = n; p = p; a = a; b = b; capacity = capacity })
 command-leaves pot (command.Add lo hi) = add-leaves pot lo hi
 command-leaves pot command.Estimate =
-    replied-leaves pot (λ values. estimateText (pot .sketch)) (λ values. estimate-other (pot .sketch)) (whenOpen pot (answered []))
+    let level = pot .sketch .level in
+    let count = pot .sketch .count in
+    (told-other (whenOpen (pot .opened) (answered [])) (λ values. estimateText level count) (λ values. estimate-other level count), refl)
 command-leaves pot (command.Count level lo hi) =
-    replied-leaves pot countText (λ values. refl) (whenOpen pot (countOn (pot .sketch .settings) level lo hi))
+    (told-other (whenOpen (pot .opened) (countOn (pot .sketch .settings) level lo hi)) countText (λ values. refl), refl)
 command-leaves pot (command.Next level from) =
-    replied-leaves pot cellText cell-other (whenOpen pot (nextOn (pot .sketch .settings) level from))
+    (told-other (whenOpen (pot .opened) (nextOn (pot .sketch .settings) level from)) cellText cell-other, refl)
 command-leaves pot command.Unknown = (refl, refl)
 
 pub reply-leaves : (pot : Pot) (line : List ℕ) → ReplyLeaves pot (changed pot (commandOf line)) (replyOf pot line)

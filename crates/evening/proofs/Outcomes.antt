@@ -22,7 +22,7 @@ use Rattle.sketch.specs.declared.Sketch.{Sketch}
 use Rattle.sketch.specs.Sketches.{Sound, isSketch, opened, add}
 use Rattle.sketch.specs.Calls.{openOn, addOn}
 use Rattle.sketch.specs.declared.estimates.Estimate.{Estimate}
-use Rattle.sketch.specs.Estimates.{Weight, exactly, about, ofEstimate, standsFor, Estimates}
+use Rattle.sketch.specs.Estimates.{Weight, exactly, about, ofEstimate, standsAt, standsFor, Estimates}
 use Rattle.sketch.proofs.Facts.{facts-sketch}
 use Rattle.sketch.proofs.Worth.{level-small, weighs-exact, weighs-about}
 use Rattle.line.specs.declared.commands.Command.{Command}
@@ -34,8 +34,7 @@ use Rattle.evening.specs.declared.Pot.{Pot}
 use Rattle.evening.specs.declared.Told.{Told}
 use Rattle.evening.specs.declared.Evening.{Evening}
 use Rattle.evening.specs.declared.Fed.{Fed}
-use Rattle.evening.specs.Replies.{Reply, Tells, Sits, kept, says, estimateText, countText, cellText, replied, whenOpen, openReply, addReply}
-use Rattle.evening.specs.Replies.{replyTo, replyOf}
+use Rattle.evening.specs.Replies.{Reply, Tells, Sits, estimateText, countText, cellText, whenOpen, told, keptIf, replyTo, replyOf}
 use Rattle.evening.specs.Runs.{Run, fed, Feeds, rest}
 use Rattle.evening.proofs.Staying.{opened-sound, added-sound}
 
@@ -62,25 +61,20 @@ feeds-tight {s} {input} {row} {out} {out′} {r} {r′} a b =
 pub rest-tight : (s : Evening) {row out out′ : List ℕ} {n n′ : ℕ} → Stored row 0 (rest s) n out → Stored row 0 (rest s) n′ out′ → (out ≡ out′) × (n ≡ n′)
 rest-tight s a b = stored-same a b
 
-replied-line : (pot : Pot) (paper : Paper) (reply : List ℕ → Reply) → ((values : List ℕ) → paper ≡ answered values → OneLine (reply values .text))
-    → OneLine (replied pot paper reply .text)
-replied-line pot (answered values) reply f = f values refl
-replied-line pot (refused number place) reply f = refusal-line number
+told-line : (paper : Paper) (text : List ℕ → List ℕ) → ((values : List ℕ) → OneLine (text values)) → OneLine (told paper text)
+told-line (answered values) text f = f values
+told-line (refused number place) text f = refusal-line number
 
-kept-one : (k : Sketch) → Sound k → OneLine (kept k .text)
-kept-one k w = kept-line (k .level) (k .count) (omega (arith, level-small k w))
+kept-one : (pot : Pot) (paper : Paper) (k : Sketch) → ((values : List ℕ) → paper ≡ answered values → Sound k) → OneLine (keptIf pot paper k .text)
+kept-one pot (answered values) k f = kept-line (k .level) (k .count) (omega (arith, level-small k (f values refl)))
+kept-one pot (refused number place) k f = refusal-line number
 
-open-line : (pot : Pot) (s : Settings) → OneLine (openReply pot s .text)
-open-line pot s = replied-line pot (openOn s) (λ values. kept (opened s)) (λ values e. kept-one (opened s) (opened-sound s values e))
-
-add-line : (pot : Pot) (lo hi : ℕ) → Sits pot → OneLine (addReply pot lo hi .text)
-add-line pot lo hi w =
-    replied-line pot (whenOpen pot (addOn (pot .sketch) lo hi)) (λ values. kept (add (pot .sketch) lo hi))
-    (λ values e. kept-one (add (pot .sketch) lo hi) (added-sound pot lo hi w values e))
-
-estimate-line : (k : Sketch) → OneLine (estimateText k)
-estimate-line k = ⊎-elim (λ (e : eqb (k .level) 0 ≡ true). rw e (exact-line (k .count))) (λ (e : eqb (k .level) 0 ≡ false). rw e (about-line (standsFor k)))
-    (tested (eqb (k .level) 0))
+estimate-line : (level count : ℕ) → OneLine (estimateText level count)
+estimate-line level count =
+    ⊎-elim
+    (λ (e : eqb level 0 ≡ true). rw e (exact-line count))
+    (λ (e : eqb level 0 ≡ false). rw e (about-line (standsAt level count)))
+    (tested (eqb level 0))
 
 cell-text-line : (values : List ℕ) → OneLine (cellText values)
 cell-text-line [] = none-line
@@ -88,16 +82,19 @@ cell-text-line (x ∷ xs) = cell-line x
 
 command-line : (pot : Pot) (c : Command) → Sits pot → OneLine (replyTo pot c .text)
 unfolding replyTo
-command-line pot (command.Settings n p a b capacity) w = open-line pot (record { n = n; p = p; a = a; b = b; capacity = capacity })
-command-line pot (command.Add lo hi) w = add-line pot lo hi w
-command-line pot command.Estimate w = replied-line pot (whenOpen pot (answered [])) (λ values. says pot (estimateText (pot .sketch)))
-    (λ values e. estimate-line (pot .sketch))
+command-line pot (command.Settings n p a b capacity) w =
+    let s : Settings = record { n = n; p = p; a = a; b = b; capacity = capacity } in
+    kept-one pot (openOn s) (opened s) (opened-sound s)
+command-line pot (command.Add lo hi) w =
+    kept-one pot (whenOpen (pot .opened) (addOn (pot .sketch) lo hi)) (add (pot .sketch) lo hi) (added-sound pot lo hi w)
+command-line pot command.Estimate w =
+    let level = pot .sketch .level in
+    let count = pot .sketch .count in
+    told-line (whenOpen (pot .opened) (answered [])) (λ values. estimateText level count) (λ values. estimate-line level count)
 command-line pot (command.Count level lo hi) w =
-    replied-line pot (whenOpen pot (countOn (pot .sketch .settings) level lo hi)) (λ values. says pot (countText values))
-    (λ values e. count-line (getD values 0 0))
+    told-line (whenOpen (pot .opened) (countOn (pot .sketch .settings) level lo hi)) countText (λ values. count-line (getD values 0 0))
 command-line pot (command.Next level from) w =
-    replied-line pot (whenOpen pot (nextOn (pot .sketch .settings) level from)) (λ values. says pot (cellText values))
-    (λ values e. cell-text-line values)
+    told-line (whenOpen (pot .opened) (nextOn (pot .sketch .settings) level from)) cellText cell-text-line
 command-line pot command.Unknown w = refusal-line badLine
 
 pub reply-line : (pot : Pot) (line : List ℕ) → Sits pot → OneLine (replyOf pot line .text)
@@ -110,7 +107,7 @@ printed (answered (exactly v)) m = textExact v
 printed (answered (about x)) m = textAbout m
 printed (refused number place) m = textRefusal number
 
-pub estimate-printed : (k : Sketch) (r : Estimate) → Sound k → Estimates k r → estimateText k ≡ printed (ofEstimate r) (standsFor k)
+pub estimate-printed : (k : Sketch) (r : Estimate) → Sound k → Estimates k r → estimateText (k .level) (k .count) ≡ printed (ofEstimate r) (standsFor k)
 estimate-printed k r w e =
     let s : isSketch k ≡ true = facts-sketch k w in
     ⊎-elim

@@ -16,7 +16,7 @@ use Rattle.rule.specs.declared.Settings.{Settings}
 use Rattle.rule.specs.Rule.{isGood}
 use Rattle.rule.specs.Refusals.{Paper, answered, refused, badSettings, notOne}
 use Rattle.find.proofs.Checks.{unless-told}
-use Rattle.find.specs.Finding.{countOn, nextOn}
+use Rattle.sketch.specs.declared.Sketch.{Sketch}
 use Rattle.sketch.specs.Sketches.{Sound, opened, add}
 use Rattle.sketch.specs.Calls.{openOn, addOn}
 use Rattle.sketch.proofs.Facts.{sketch-facts, facts-sketch}
@@ -26,43 +26,34 @@ use Rattle.line.specs.declared.commands.Command.the-variants as command
 use Rattle.line.specs.Lines.{commandOf}
 use Rattle.evening.specs.declared.Pot.{Pot}
 use Rattle.evening.specs.declared.Evening.{Evening}
-use Rattle.evening.specs.Replies.{Sits, Reply, kept, says, estimateText, countText, cellText, replied, whenOpen, openReply, addReply, replyTo, replyOf}
+use Rattle.evening.specs.Replies.{Sits, whenOpen, keptIf, replyTo, replyOf}
 use Rattle.evening.specs.Runs.{beginning, Sitting, lengthened, noted, step, fed}
 
-replied-sits : (pot : Pot) (paper : Paper) (reply : List ℕ → Reply) → Sits pot
-    → ((values : List ℕ) → paper ≡ answered values → Sits (reply values .pot)) → Sits (replied pot paper reply .pot)
-replied-sits pot (answered values) reply w f = f values refl
-replied-sits pot (refused number place) reply w f = w
+kept-sits : (pot : Pot) (paper : Paper) (k : Sketch) → Sits pot → ((values : List ℕ) → paper ≡ answered values → Sound k) → Sits (keptIf pot paper k .pot)
+kept-sits pot (answered values) k w f = record { sound = λ o. f values refl }
+kept-sits pot (refused number place) k w f = w
 
 -- what S opens and what A hands on is a sketch
 pub opened-sound : (s : Settings) (values : List ℕ) → openOn s ≡ answered values → Sound (opened s)
 unfolding openOn
 opened-sound s values e = sketch-facts (opened s) (open-again s (unless-told (isGood s) badSettings (answered []) values e .0))
 
-pub added-sound : (pot : Pot) (lo hi : ℕ) → Sits pot → (values : List ℕ) → whenOpen pot (addOn (pot .sketch) lo hi) ≡ answered values
+pub added-sound : (pot : Pot) (lo hi : ℕ) → Sits pot → (values : List ℕ) → whenOpen (pot .opened) (addOn (pot .sketch) lo hi) ≡ answered values
     → Sound (add (pot .sketch) lo hi)
 added-sound pot lo hi w values e =
     let o : pot .opened ≡ true = unless-told (pot .opened) notOne (addOn (pot .sketch) lo hi) values e .0 in
     sketch-facts (add (pot .sketch) lo hi) (add-again (pot .sketch) lo hi (facts-sketch (pot .sketch) (w .sound o)))
 
-open-sits : (pot : Pot) (s : Settings) → Sits pot → Sits (openReply pot s .pot)
-open-sits pot s w =
-    replied-sits pot (openOn s) (λ values. kept (opened s)) w (λ values e. record { sound = λ o. opened-sound s values e })
-
-add-sits : (pot : Pot) (lo hi : ℕ) → Sits pot → Sits (addReply pot lo hi .pot)
-add-sits pot lo hi w =
-    replied-sits pot (whenOpen pot (addOn (pot .sketch) lo hi)) (λ values. kept (add (pot .sketch) lo hi)) w
-    (λ values e. record { sound = λ o. added-sound pot lo hi w values e })
-
 command-sits : (pot : Pot) (c : Command) → Sits pot → Sits (replyTo pot c .pot)
 unfolding replyTo
-command-sits pot (command.Settings n p a b capacity) w = open-sits pot (record { n = n; p = p; a = a; b = b; capacity = capacity }) w
-command-sits pot (command.Add lo hi) w = add-sits pot lo hi w
-command-sits pot command.Estimate w = replied-sits pot (whenOpen pot (answered [])) (λ values. says pot (estimateText (pot .sketch))) w (λ values e. w)
-command-sits pot (command.Count level lo hi) w =
-    replied-sits pot (whenOpen pot (countOn (pot .sketch .settings) level lo hi)) (λ values. says pot (countText values)) w (λ values e. w)
-command-sits pot (command.Next level from) w =
-    replied-sits pot (whenOpen pot (nextOn (pot .sketch .settings) level from)) (λ values. says pot (cellText values)) w (λ values e. w)
+command-sits pot (command.Settings n p a b capacity) w =
+    let s : Settings = record { n = n; p = p; a = a; b = b; capacity = capacity } in
+    kept-sits pot (openOn s) (opened s) w (opened-sound s)
+command-sits pot (command.Add lo hi) w =
+    kept-sits pot (whenOpen (pot .opened) (addOn (pot .sketch) lo hi)) (add (pot .sketch) lo hi) w (added-sound pot lo hi w)
+command-sits pot command.Estimate w = w
+command-sits pot (command.Count level lo hi) w = w
+command-sits pot (command.Next level from) w = w
 command-sits pot command.Unknown w = w
 
 pub reply-sits : (pot : Pot) (line : List ℕ) → Sits pot → Sits (replyOf pot line .pot)

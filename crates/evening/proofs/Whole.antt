@@ -21,7 +21,7 @@ use Rattle.line.proofs.Shapes.{command-long}
 use Rattle.evening.specs.declared.Pot.{Pot}
 use Rattle.evening.specs.declared.Evening.{Evening}
 use Rattle.evening.specs.Replies.{replyTo, replyOf}
-use Rattle.evening.specs.Runs.{beginning, lineOf, noted, ended, Run, step, fed, rest, linesFrom, answers, outputOf}
+use Rattle.evening.specs.Runs.{beginning, lineOf, noted, lineEnded, Run, step, fed, rest, linesFrom, answers, outputOf}
 
 command-cut : (line : List ℕ) → commandOf (take 65 line) ≡ commandOf line
 command-cut line =
@@ -42,7 +42,7 @@ pub record Holds (s : Evening) (line : List ℕ) : Type 0 where
   pub bytes : lineOf s ≡ take 65 line
   pub places : length (s .line) ≡ 65
 
-holds-ended : (s : Evening) (line : List ℕ) → Holds s line → Holds (ended s .evening) []
+holds-ended : (s : Evening) (line : List ℕ) → Holds s line → Holds (lineEnded s .evening) []
 holds-ended s line h = record { short = omega arith; bytes = refl; places = h .places }
 
 holds-noted : (s : Evening) (line : List ℕ) (x : ℕ) → Holds s line → Holds (noted s x) (line ++ (x ∷ []))
@@ -84,7 +84,7 @@ written-end s line h =
     rw (e, n, h .bytes, reply-cut (s .pot) line) (sym (append-nil (replyOf (s .pot) line .text))))
     (tested (eqb (length line) 0))
 
-step-ended : (s : Evening) (x : ℕ) → eqb x 10 ≡ true → step s x ≡ ended s
+step-ended : (s : Evening) (x : ℕ) → eqb x 10 ≡ true → step s x ≡ lineEnded s
 unfolding step
 step-ended s x e = rw e
 
@@ -98,12 +98,12 @@ noted-pot s x = ⊎-elim (λ (e : ltb (s .length) 65 ≡ true). rw e) (λ (e : l
 all-lines : (s : Evening) (line input : List ℕ) → Holds s line → written s input ≡ answers (s .pot) (linesFrom line input)
 all-lines s line [] h = written-end s line h
 all-lines s line (x ∷ input) h =
-    let one = all-lines (ended s .evening) [] input (holds-ended s line h) in
+    let one = all-lines (lineEnded s .evening) [] input (holds-ended s line h) in
     let other = all-lines (noted s x) (line ++ (x ∷ [])) input (holds-noted s line x h) in
     let cut : replyOf (s .pot) (lineOf s) ≡ replyOf (s .pot) line = ap (replyOf (s .pot)) (h .bytes) ∙ reply-cut (s .pot) line in
     ⊎-elim
     (λ (e : eqb x 10 ≡ true).
-    written-step s x input (ended s) (step-ended s x e) ∙ ap (λ (v : List ℕ). replyOf (s .pot) (lineOf s) .text ++ v) one ∙ (rw (e, cut)))
+    written-step s x input (lineEnded s) (step-ended s x e) ∙ ap (λ (v : List ℕ). replyOf (s .pot) (lineOf s) .text ++ v) one ∙ (rw (e, cut)))
     (λ (e : eqb x 10 ≡ false).
     written-step s x input (record { evening = noted s x; output = [] }) (step-on s x e)
     ∙ other

@@ -1,7 +1,7 @@
 -- What a line is answered, and the pot after it. Assumes nothing: these are definitions.
 use Prim.Native.Nat.{ℕ, _+_, _≤_}
 use mathlib.Core.Path.{_≡_}
-use mathlib.Core.Bool.{true, false, cond}
+use mathlib.Core.Bool.{Bool, true, false, cond}
 use mathlib.Core.List.{List, [], _∷_}
 use lib.Dec.{eqb}
 use lib.ListN.{length, getD}
@@ -12,7 +12,7 @@ use Rattle.find.specs.Finding.{countOn, nextOn}
 use Rattle.sketch.specs.declared.Sketch.{Sketch}
 use Rattle.sketch.specs.Sketches.{Sound, opened, add}
 use Rattle.sketch.specs.Calls.{noSketch, openOn, addOn}
-use Rattle.sketch.specs.Estimates.{standsFor}
+use Rattle.sketch.specs.Estimates.{standsAt}
 use Rattle.line.specs.declared.commands.Command.{Command}
 use Rattle.line.specs.declared.commands.Command.the-variants as command
 use Rattle.line.specs.Lines.{commandOf}
@@ -45,13 +45,13 @@ refusal pot number = record { text = textRefusal number; pot = pot }
 abbrev pub kept : Sketch → Reply
 kept k = record { text = textKept (k .level) (k .count); pot = potOf k }
 
--- any other text; the pot stays
+-- any text; the pot stays
 abbrev pub says : Pot → List ℕ → Reply
 says pot text = record { text = text; pot = pot }
 
 -- `E exact v` at level 0, and `E about v` above it
-abbrev pub estimateText : Sketch → List ℕ
-estimateText k = cond (eqb (k .level) 0) (textExact (k .count)) (textAbout (standsFor k))
+abbrev pub estimateText : ℕ → ℕ → List ℕ
+estimateText level count = cond (eqb level 0) (textExact count) (textAbout (standsAt level count))
 
 -- `C v`
 abbrev pub countText : List ℕ → List ℕ
@@ -62,33 +62,47 @@ abbrev pub cellText : List ℕ → List ℕ
 cellText [] = textNone
 cellText (x ∷ xs) = textCell x
 
--- a paper's reply: one for the values, or the refusal
-abbrev pub replied : Pot → Paper → (List ℕ → Reply) → Reply
-replied pot (answered values) reply = reply values
-replied pot (refused number place) reply = refusal pot number
-
 -- the number 4 before any other where no sketch is open
-abbrev pub whenOpen : Pot → Paper → Paper
-whenOpen pot paper = unless (pot .opened) notOne paper
+abbrev pub whenOpen : Bool → Paper → Paper
+whenOpen isOpen paper = unless isOpen notOne paper
+
+-- a paper's text: that of the values, or `R number`
+abbrev pub told : Paper → (List ℕ → List ℕ) → List ℕ
+told (answered values) text = text values
+told (refused number place) text = textRefusal number
+
+-- a paper's reply: the sketch is kept, or the refusal
+abbrev pub keptIf : Pot → Paper → Sketch → Reply
+keptIf pot (answered values) k = kept k
+keptIf pot (refused number place) k = refusal pot number
 
 -- S opens and replaces the sketch if its settings are good
 abbrev pub openReply : Pot → Settings → Reply
-openReply pot s = replied pot (openOn s) (λ values. kept (opened s))
+openReply pot s = keptIf pot (openOn s) (opened s)
 
 -- A adds
 abbrev pub addReply : Pot → ℕ → ℕ → Reply
-addReply pot lo hi = replied pot (whenOpen pot (addOn (pot .sketch) lo hi)) (λ values. kept (add (pot .sketch) lo hi))
+addReply pot lo hi = keptIf pot (whenOpen (pot .opened) (addOn (pot .sketch) lo hi)) (add (pot .sketch) lo hi)
 
--- E estimates
+-- E estimates; what it tells, and its reply
+abbrev pub estimateTold : Bool → ℕ → ℕ → List ℕ
+estimateTold isOpen level count = told (whenOpen isOpen (answered [])) (λ values. estimateText level count)
+
 abbrev pub estimateReply : Pot → Reply
-estimateReply pot = replied pot (whenOpen pot (answered [])) (λ values. says pot (estimateText (pot .sketch)))
+estimateReply pot = says pot (estimateTold (pot .opened) (pot .sketch .level) (pot .sketch .count))
 
--- C counts and N finds, both with the open settings
+-- C counts and N finds, both with the open settings; what they tell, and their replies
+abbrev pub countTold : Bool → Settings → ℕ → ℕ → ℕ → List ℕ
+countTold isOpen settings level lo hi = told (whenOpen isOpen (countOn settings level lo hi)) countText
+
 abbrev pub countReply : Pot → ℕ → ℕ → ℕ → Reply
-countReply pot level lo hi = replied pot (whenOpen pot (countOn (pot .sketch .settings) level lo hi)) (λ values. says pot (countText values))
+countReply pot level lo hi = says pot (countTold (pot .opened) (pot .sketch .settings) level lo hi)
+
+abbrev pub nextTold : Bool → Settings → ℕ → ℕ → List ℕ
+nextTold isOpen settings level from = told (whenOpen isOpen (nextOn settings level from)) cellText
 
 abbrev pub nextReply : Pot → ℕ → ℕ → Reply
-nextReply pot level from = replied pot (whenOpen pot (nextOn (pot .sketch .settings) level from)) (λ values. says pot (cellText values))
+nextReply pot level from = says pot (nextTold (pot .opened) (pot .sketch .settings) level from)
 
 -- the reply to each command (RULES: Program)
 unfoldable pub replyTo : Pot → Command → Reply

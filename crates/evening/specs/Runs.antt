@@ -38,12 +38,12 @@ abbrev pub noted : Evening → ℕ → Evening
 noted s x = cond (ltb (s .length) 65) (lengthened s x) s
 
 -- the line's end: it is answered, and the next begins
-abbrev pub ended : Evening → Run
-ended s = record { evening = record { pot = replyOf (s .pot) (lineOf s) .pot; length = 0; line = s .line }; output = replyOf (s .pot) (lineOf s) .text }
+abbrev pub lineEnded : Evening → Run
+lineEnded s = record { evening = record { pot = replyOf (s .pot) (lineOf s) .pot; length = 0; line = s .line }; output = replyOf (s .pot) (lineOf s) .text }
 
 -- a byte: the newline, or one of the line
 unfoldable pub step : Evening → ℕ → Run
-step s x = cond (eqb x (code "\n")) (ended s) (record { evening = noted s x; output = [] })
+step s x = cond (eqb x (code "\n")) (lineEnded s) (record { evening = noted s x; output = [] })
 
 -- one run after another
 abbrev pub after : Run → Run → Run

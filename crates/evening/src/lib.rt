@@ -1,23 +1,26 @@
 // An evening of potcount on bytes: each line is answered with a line, and the open sketch is kept from one to the next.
 ghost use mathlib.Core.Path.{_≡_};
-ghost use Prim.Native.Nat.{_≤_};
-ghost use lib.ListN.{length};
 ghost use Rattle.lists.specs.Rows.{Stored};
-ghost use Rattle.sketch.specs.Sketches.{Sound};
-ghost use Rattle.evening.specs.Replies.{noPot, Sits, Room, Tells, refusal, kept, says, estimateText, openReply, addReply, estimateReply, countReply};
-ghost use Rattle.evening.specs.Replies.{nextReply, replyOf};
+ghost use Rattle.evening.specs.Replies.{Sits, Room, Tells, refusal, kept, openReply, addReply, estimateReply, countReply, nextReply};
+ghost use Rattle.evening.specs.Replies.{replyOf};
 ghost use Rattle.evening.specs.Runs.{beginning, Sitting, Feeds, rest};
+
+mod tells;
+
 use line::commands::Command;
 use rule::Settings;
 use rule::answers::Answer;
-use rule::answers::Counted;
-use rule::answers::Found;
 use rule::refusals::BAD_LINE;
-use rule::refusals::NOT_ONE;
-use sketch::PLACES;
 use sketch::Sketch;
-use sketch::parts::Head;
-use sketch::parts::Tried;
+use tells::tell_count;
+use tells::tell_estimate;
+use tells::tell_next;
+
+// The bytes that are kept of a line: one more than it may have.
+const LINE: usize = line::LONGEST + 1;
+
+// The room that does for any answer.
+const ROOM: usize = 40;
 
 // The open sketch; all zeros where none has been opened yet.
 pub struct Pot {
@@ -31,12 +34,12 @@ pub struct Told {
     pub next: usize,
 }
 
-// The pot, and the line so far: its first 65 bytes, one more than a line may have. The places
-// after them hold what is left of earlier lines.
+// The pot, and the line so far: its first bytes. The places after them hold what is left of earlier
+// lines.
 pub struct Evening {
     pub pot: Pot,
     pub length: usize,
-    pub line: [u8; 65],
+    pub line: [u8; LINE],
 }
 
 // The evening after a piece of the input, how many of its bytes were taken, and how many were written.
@@ -56,7 +59,7 @@ pub fn begin() -> Evening
             sketch: sketch::no_sketch(),
         },
         length: 0,
-        line: [0; 65],
+        line: [0; LINE],
     }
 }
 
@@ -103,93 +106,39 @@ fn answer_add(pot: Pot, lo: u32, hi: u32, out: &mut [u8], at: usize) -> Told
     requires { ⌜ Sits pot × Room (now out) at ⌝ }
     ensures { λ r. ⌜ Tells (now (out .entry)) at (addReply pot lo hi) (now (out .exit)) r ⌝ }
 {
-    let sketch = pot.sketch;
-    let settings = sketch.settings;
-    let head = Head {
-        known: pot.opened,
-        settings,
-        level: sketch.level,
-        count: sketch.count,
-    };
-    let mut cells = [0u32; PLACES];
-    let tried = sketch::parts::try_add(&mut cells, head, &sketch.cells, lo, hi);
-    match tried {
-        Tried::Kept { level, count } => {
-            let next = Sketch {
-                settings,
-                level,
-                count,
-                cells,
-            };
+    let answer = sketch::order::add_answer(pot.opened, pot.sketch.settings, lo, hi);
+    match answer {
+        Answer::Refused(refusal) => refuse(pot, refusal, out, at),
+        Answer::Done => {
+            let next = pot.sketch.added(lo, hi);
             keep(next, out, at)
         }
-        Tried::Refused(refusal) => refuse(pot, refusal, out, at),
     }
 }
 
-// `E exact v` or `E about v`
-fn put_estimate(sketch: Sketch, out: &mut [u8], at: usize) -> usize
-    requires { ⌜ Sound sketch × Room (now out) at ⌝ }
-    ensures { λ r. ⌜ Stored (now (out .entry)) at (estimateText sketch) r (now (out .exit)) ⌝ }
-{
-    let level = sketch.level;
-    let count = sketch.count;
-    if level == 0 {
-        return line::put_exact(out, at, count as u64);
-    }
-    line::put_about(out, at, sketch::stands_at(level, count))
-}
-
-// `E`
+// `E`, `C` and `N`: the pot stays.
 fn answer_estimate(pot: Pot, out: &mut [u8], at: usize) -> Told
     requires { ⌜ Sits pot × Room (now out) at ⌝ }
     ensures { λ r. ⌜ Tells (now (out .entry)) at (estimateReply pot) (now (out .exit)) r ⌝ }
 {
-    if !pot.opened {
-        return refuse(pot, NOT_ONE, out, at);
-    }
-    let next = put_estimate(pot.sketch, out, at);
+    let next = tell_estimate(pot.opened, pot.sketch.level, pot.sketch.count, out, at);
     Told { pot, next }
 }
 
-// `C level lo hi`
 fn answer_count(pot: Pot, level: u32, lo: u32, hi: u32, out: &mut [u8], at: usize) -> Told
     requires { ⌜ Room (now out) at ⌝ }
     ensures { λ r. ⌜ Tells (now (out .entry)) at (countReply pot level lo hi) (now (out .exit)) r ⌝ }
 {
-    if !pot.opened {
-        return refuse(pot, NOT_ONE, out, at);
-    }
-    let counted = find::count(pot.sketch.settings, level, lo, hi);
-    match counted {
-        Counted::Count(v) => {
-            let next = line::put_count(out, at, v);
-            Told { pot, next }
-        }
-        Counted::Refused(number) => refuse(pot, number, out, at),
-    }
+    let next = tell_count(pot.opened, pot.sketch.settings, level, lo, hi, out, at);
+    Told { pot, next }
 }
 
-// `N level from`
 fn answer_next(pot: Pot, level: u32, from: u32, out: &mut [u8], at: usize) -> Told
     requires { ⌜ Room (now out) at ⌝ }
     ensures { λ r. ⌜ Tells (now (out .entry)) at (nextReply pot level from) (now (out .exit)) r ⌝ }
 {
-    if !pot.opened {
-        return refuse(pot, NOT_ONE, out, at);
-    }
-    let found = find::next_hit(pot.sketch.settings, level, from);
-    match found {
-        Found::Cell(x) => {
-            let next = line::put_cell(out, at, x);
-            Told { pot, next }
-        }
-        Found::Nothing => {
-            let next = line::put_none(out, at);
-            Told { pot, next }
-        }
-        Found::Refused(number) => refuse(pot, number, out, at),
-    }
+    let next = tell_next(pot.opened, pot.sketch.settings, level, from, out, at);
+    Told { pot, next }
 }
 
 // The answer to a line without its newline, stored from a place on.
@@ -235,7 +184,7 @@ pub fn feed(evening: Evening, input: &[u8], out: &mut [u8]) -> Fed
     let room = out.len();
     let mut written = 0;
     let mut taken = 0;
-    while taken < input.len() && 40 <= room - written {
+    while taken < input.len() && ROOM <= room - written {
         let x = input[taken];
         taken = taken + 1;
         if x == b'\n' {
@@ -243,7 +192,7 @@ pub fn feed(evening: Evening, input: &[u8], out: &mut [u8]) -> Fed
             pot = told.pot;
             length = 0;
             written = told.next;
-        } else if length < 65 {
+        } else if length < LINE {
             line[length] = x;
             length = length + 1;
         }

@@ -25,9 +25,9 @@ use Rattle.rule.specs.Refusals.{answered}
 use Rattle.rule.proofs.Facts.{positive}
 use Rattle.rule.proofs.Passing.{passes-zero}
 use Rattle.rule.proofs.NextHits.{next-some}
-use Rattle.next.specs.Hit.{Answer, Progression}
-use Rattle.next.specs.declared.Found.{Found}
-use Rattle.next.specs.declared.Found.the-variants.{At, Nothing}
+use Rattle.next.specs.Hit.{Finds, Progression}
+use Rattle.next.specs.declared.Index.{Index}
+use Rattle.next.specs.declared.Index.the-variants.{At, Nothing}
 use Rattle.next.proofs.Laws.{answer-at, answer-nothing}
 use Rattle.find.proofs.Checks.{and-parts}
 use Rattle.find.proofs.Counting.{hash-step, hash-below}
@@ -73,13 +73,13 @@ module _ (s : Settings) (level lo hi : ℕ) (h : Hashes) (f : Handed s level lo 
   unfolding passes
   hit-passes i = rw (f .modulus, f .step, f .start, f .size) (ap (λ (y : ℕ). ltb y (region s level)) (hash-step s lo i))
 
-  pub found-at : (i : ℕ) (x : Found) → Answer (h .p) (h .a) (h .start) (h .size) (h .cells) x → x ≡ At i → nextHit s level lo hi ≡ some (lo + i)
+  pub found-at : (i : ℕ) (x : Index) → Finds (h .p) (h .a) (h .start) (h .size) (h .cells) x → x ≡ At i → nextHit s level lo hi ≡ some (lo + i)
   unfolding nextHit
   found-at i x g e =
       let t = answer-at (h .p) (h .a) (h .start) (h .size) (h .cells) i x g e in
       run-first (passes s level) lo (suc hi - lo) i (rw (← f .cells) (t .0)) (hit-passes i ∙ t .1) (λ j b. hit-passes j ∙ t .2 j b)
 
-  pub found-nothing : (x : Found) → Answer (h .p) (h .a) (h .start) (h .size) (h .cells) x → x ≡ Nothing → nextHit s level lo hi ≡ none
+  pub found-nothing : (x : Index) → Finds (h .p) (h .a) (h .start) (h .size) (h .cells) x → x ≡ Nothing → nextHit s level lo hi ≡ none
   unfolding nextHit
   found-nothing x g e =
       ap first (run-none (passes s level) lo (suc hi - lo) (λ i b.

@@ -85,8 +85,8 @@ pub fn first_in(settings: Settings, level: u32, lo: u32, hi: u32) -> Found
     }
     let h = progression(settings, level, lo, hi);
     match next::next_hit(h.p, h.a, h.start, h.size, h.cells) {
-        next::Found::At(i) => Found::Cell((wide(lo) + i) as u32),
-        next::Found::Nothing => Found::Nothing,
+        next::Index::At(i) => Found::Cell((wide(lo) + i) as u32),
+        next::Index::Nothing => Found::Nothing,
     }
 }
 

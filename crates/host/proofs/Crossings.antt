@@ -3,9 +3,10 @@
 --     row-again, walker-row-again    and a row of 511 numbers from its sketch, a row of eight from its walker: so a refused row is unchanged
 --     zero-row, zero-walker-row    the rows of all zeros
 --     head-stored, cells-stored, cells-lent    a row, as the code stores it in two parts
---     parts-in, known-in    a sketch's parts, as the code lends them
+--     parts-in, row-kept-in    a sketch's parts, as the code lends them
 -- Assumes nothing.
 use mathlib.Core.Path.{_≡_, refl, sym, ap, _∙_, subst}
+use mathlib.Core.Bool.{true}
 use mathlib.Core.List.{List, [], _∷_, _++_, append-nil}
 use Prim.Native.Nat.{ℕ, _+_, _-_, _<_}
 use native.Mathlib.Omega.{arith}
@@ -17,13 +18,12 @@ use Rattle.rule.specs.declared.Settings.{Settings}
 use Rattle.find.specs.declared.Walker.{Walker}
 use Rattle.find.specs.Walking.{noWalker}
 use Rattle.sketch.specs.declared.Sketch.{Sketch}
-use Rattle.sketch.specs.declared.parts.Head.{Head}
-use Rattle.sketch.specs.Sketches.{held, sketchAt}
+use Rattle.sketch.specs.Sketches.{held, sketchAt, keptOf, isSketch}
 use Rattle.sketch.specs.Calls.{noSketch}
-use Rattle.sketch.specs.Trying.{Known}
+use Rattle.sketch.specs.Settling.{KeptIn}
 use Rattle.sketch.proofs.Facts.{sketch-facts}
-use Rattle.sketch.proofs.Handing.{known-head}
-use Rattle.host.specs.Crossing.{settingsRow, settingsFrom, sketchRow, sketchIn, headIn, walkerRow, walkerIn}
+use Rattle.sketch.proofs.Handing.{row-kept}
+use Rattle.host.specs.Crossing.{settingsRow, settingsFrom, sketchRow, sketchIn, walkerRow, walkerIn}
 
 pub settings-again : (s : Settings) → settingsFrom (settingsRow s) ≡ s
 settings-again s = refl
@@ -104,9 +104,10 @@ pub parts-in : (row : List ℕ) (s : Settings) → s ≡ settingsFrom row → he
 unfolding sketchIn
 parts-in row s e = rw (e, part-rest row 7)
 
--- and where they are known to be a sketch's
-pub known-in : (row : List ℕ) (h : Head) → length row ≡ 511 → h ≡ headIn row → Known h (take (length row - 7) (drop 7 row))
+-- and where they are a sketch's: cells kept at its level
+pub row-kept-in : (row : List ℕ) (s : Settings) → length row ≡ 511 → s ≡ settingsFrom row → isSketch (sketchIn row) ≡ true
+    → KeptIn s (keptOf (sketchIn row)) (take (length row - 7) (drop 7 row))
 unfolding sketchIn
-known-in row h e q =
+row-kept-in row s e q k =
     let sized : length (drop 7 row) ≡ 504 = length-drop 7 row ∙ omega arith in
-    rw (part-rest row 7) (known-head (sketchIn row) q sized (sketch-facts (sketchIn row)))
+    rw (q, part-rest row 7) (row-kept (sketchIn row) sized (sketch-facts (sketchIn row) k))

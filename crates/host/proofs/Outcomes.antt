@@ -1,41 +1,41 @@
 -- The laws of what comes back.
 --     told, given, begun    an inner call's promise gives the boundary's: a number with a value, with a sketch's row, with a walker's
---     adds-in, merges-in    what adding and merging promise on the parts lent is what they promise on the rows
+--     gives-refused, gives-done    adding and merging, by their answer
+--     adds-told, merges-told, adds-kept, merges-kept    what they answer and keep on the rows lent
 --     double-stands    the double of a sketch is the number of cells that it stands for
 --     double-worth     with nothing lost
 -- Assumes nothing.
 use mathlib.Core.Path.{_≡_, sym, ap, _∙_}
-use mathlib.Core.Bool.{true, false}
+use mathlib.Core.Bool.{Bool, true, false}
 use mathlib.Core.Logic.{⊎-elim}
 use mathlib.Core.List.{List, []}
-use Prim.Native.Nat.{ℕ, _-_}
-use lib.ListN.{length, take, drop, replicate}
+use Prim.Native.Nat.{ℕ, _-_, max}
+use lib.ListN.{length, take, drop}
 use lib.Dec.{eqb}
 use lib.IntN.{pos}
 use lib.Ieee.{binary64, ofInt}
 use lib.Ieee.Exact.{HasValue}
 use borrow.Author.Tests.{eqb-true, eqb-false}
+use Rattle.lists.specs.Lists.{listed}
 use Rattle.lists.proofs.Tests.{tested}
 use Rattle.lists.proofs.Steps.{part-rest}
 use Rattle.rule.specs.declared.Settings.{Settings}
-use Rattle.rule.specs.Cells.{Cells}
+use Rattle.rule.specs.Cells.{_∪_, interval}
 use Rattle.rule.specs.Refusals.{Paper, answered, refused, ofAnswer}
 use Rattle.find.specs.declared.Started.{Started}
 use Rattle.find.specs.Walking.{Starts}
 use Rattle.sketch.specs.declared.Sketch.{Sketch}
 use Rattle.sketch.specs.declared.Changed.{Changed}
-use Rattle.sketch.specs.declared.parts.Head.{Head}
-use Rattle.sketch.specs.declared.parts.Tried.{Tried}
-use Rattle.sketch.specs.declared.parts.Tried.the-variants as tried
-use Rattle.sketch.specs.Sketches.{isSketch, cellsOf, sketchFrom, add, merge}
-use Rattle.sketch.specs.Calls.{Hands, noSketch, handed, addOn, mergeOn}
+use Rattle.sketch.specs.declared.settle.Kept.{Kept}
+use Rattle.sketch.specs.Settling.{Keeps, keptIn}
+use Rattle.sketch.specs.Sketches.{held, keptOf, isSketch, add, merge}
+use Rattle.sketch.specs.Calls.{Hands, handed, addWhen, addOn, mergeWhen, mergeOn}
 use Rattle.sketch.specs.Estimates.{standsFor, estimateOn}
-use Rattle.sketch.specs.Trying.{Tries, TriesAdd, TriesMerge}
 use Rattle.sketch.proofs.Facts.{sketch-facts, count-few}
-use Rattle.sketch.proofs.Handing.{keeps-sketch}
+use Rattle.sketch.proofs.Handing.{add-told, merge-told, kept-add, kept-merge}
 use Rattle.sketch.proofs.Worth.{level-small, stands-at-zero, worth-about, weighs-exact, weighs-about}
-use Rattle.host.specs.Crossing.{sketchRow, sketchIn, headIn, walkerRow, walkerIn, toldNumber, doubleOf, Crosses, Gives, Puts, Adds, Merges, Begins, Moves}
-use Rattle.host.proofs.Crossings.{row-again, walker-row-again, zero-row}
+use Rattle.host.specs.Crossing.{settingsFrom, sketchRow, sketchIn, walkerRow, toldNumber, doubleOf, Crosses, Gives, Begins}
+use Rattle.host.proofs.Crossings.{row-again}
 
 pub told : {p q : Paper} {r v : ℕ} → Crosses p r v → p ≡ q → Crosses q r v
 told t e = rw e at t
@@ -44,37 +44,43 @@ pub given : {paper : Paper} {next old : Sketch} {c : Changed} {r : ℕ} {after :
     → (r ≡ toldNumber (ofAnswer (c .answer))) × (after ≡ sketchRow (c .sketch)) → Hands paper next old c → Gives paper next old r after
 given h g = record { number = h .0 ∙ ap toldNumber (g .answer); row = h .1 ∙ ap sketchRow (g .sketch) }
 
--- a refusal leaves the row lent; otherwise what is kept now is the next sketch's
-puts-gives : {paper : Paper} {X : Cells} {here r : ℕ} {cells after : List ℕ} (row : List ℕ) (t : Tried) → length row ≡ 511
-    → Tries paper (sketchIn row .settings) X here t cells
-    → Puts (sketchIn row .settings) t cells row r after
-    → Gives paper (sketchFrom (sketchIn row .settings) X here) (sketchIn row) r after
-puts-gives {paper} {X} {here} row (tried.Kept level count) len w p =
-    record {
-      number = p .0 ∙ ap toldNumber (w .answer);
-      row =
-          p .1
-          ∙ ap sketchRow (keeps-sketch (w .leaves))
-          ∙ ap (λ (q : Paper). sketchRow (handed q (sketchFrom (sketchIn row .settings) X here) (sketchIn row))) (w .answer);
-    }
-puts-gives {paper} {X} {here} row (tried.Refused number) len w p =
-    record {
-      number = p .0 ∙ ap toldNumber (w .answer);
-      row = p .1 ∙ sym (row-again row len) ∙ ap (λ (q : Paper). sketchRow (handed q (sketchFrom (sketchIn row .settings) X here) (sketchIn row))) (w .answer);
-    }
+-- a refusal leaves the row lent; otherwise it is the next sketch's
+pub gives-refused : {paper : Paper} {number : ℕ} (next : Sketch) (row : List ℕ) → length row ≡ 511 → refused number 0 ≡ paper
+    → Gives paper next (sketchIn row) number row
+gives-refused next row len e =
+    record { number = ap toldNumber e; row = sym (row-again row len) ∙ ap (λ (q : Paper). sketchRow (handed q next (sketchIn row))) e }
 
--- what adding and merging promise on the parts lent
-module _ (row : List ℕ) (t : Tried) {h : Head} {r : ℕ} {cells after : List ℕ} (len : length row ≡ 511) (e : h ≡ headIn row)
-    (p : Puts (h .settings) t cells row r after) where
-  pub adds-in : (lo hi : ℕ) → TriesAdd h (take (length row - 7) (drop 7 row)) lo hi t cells → Adds row lo hi r after
-  unfolding sketchIn add addOn cellsOf
-  adds-in lo hi w = puts-gives row t len (rw (e, part-rest row 7) at w) (rw e at p)
+pub gives-done : {paper : Paper} {after : List ℕ} (next old : Sketch) → answered [] ≡ paper → after ≡ sketchRow next → Gives paper next old 0 after
+gives-done next old e q = record { number = ap toldNumber e; row = q ∙ ap (λ (p : Paper). sketchRow (handed p next old)) e }
 
-  pub merges-in : {g : Head} (other : List ℕ) → g ≡ headIn other
-      → TriesMerge h (take (length row - 7) (drop 7 row)) g (take (length other - 7) (drop 7 other)) t cells
-      → Merges row other r after
-  unfolding sketchIn merge mergeOn cellsOf
-  merges-in other f w = puts-gives row t len (rw (e, f, part-rest row 7, part-rest other 7) at w) (rw e at p)
+-- the settings and the test of a row, as the code makes them
+module _ (row : List ℕ) {known : Bool} {s : Settings} (e : s ≡ settingsFrom row) (k : known ≡ isSketch (sketchIn row)) {paper : Paper} where
+  pub adds-told : (lo hi : ℕ) → paper ≡ addWhen known s lo hi → paper ≡ addOn (sketchIn row) lo hi
+  unfolding sketchIn
+  adds-told lo hi q = add-told (sketchIn row) lo hi k (rw e at q)
+
+  pub merges-told : (other : List ℕ) {its : Bool} {t : Settings} → t ≡ settingsFrom other → its ≡ isSketch (sketchIn other) → paper ≡ mergeWhen known s its t
+      → paper ≡ mergeOn (sketchIn row) (sketchIn other)
+  unfolding sketchIn
+  merges-told other f j q = merge-told (sketchIn row) (sketchIn other) k j (rw (e, f) at q)
+
+-- what is kept of the row lent is the next sketch
+module _ (row : List ℕ) {s : Settings} {kept : Kept} (e : s ≡ settingsFrom row) (q : kept ≡ keptOf (sketchIn row)) {level count : ℕ} {out : List ℕ} where
+  pub adds-kept : (lo hi : ℕ) → Keeps s (listed (keptIn kept (take (length row - 7) (drop 7 row))) ∪ interval lo hi) (kept .level) 504 level count out
+      → held s level count out ≡ add (sketchIn row) lo hi
+  unfolding sketchIn
+  adds-kept lo hi w = rw e (kept-add (sketchIn row) lo hi (rw (e, q, part-rest row 7) at w))
+
+  pub merges-kept : (other : List ℕ) {its : Kept} → its ≡ keptOf (sketchIn other) → isSketch (sketchIn row) ≡ true → isSketch (sketchIn other) ≡ true
+      → s ≡ settingsFrom other
+      → Keeps s (listed (keptIn kept (take (length row - 7) (drop 7 row))) ∪ listed (keptIn its (take (length other - 7) (drop 7 other))))
+      (max (kept .level) (its .level)) 1008 level count out
+      → held s level count (take 504 out) ≡ merge (sketchIn row) (sketchIn other)
+  unfolding sketchIn
+  merges-kept other f k j t w =
+      rw e
+      (kept-merge (sketchIn row) (sketchIn other) (sketch-facts (sketchIn row) k) (sketch-facts (sketchIn other) j) (sym e ∙ t)
+      (rw (e, q, f, part-rest row 7, part-rest other 7) at w))
 
 pub begun : {s : Settings} {level lo hi r : ℕ} {t : Started} {after : List ℕ} → r ≡ toldNumber (ofAnswer (t .answer)) → after ≡ walkerRow (t .walker)
     → Starts s level lo hi t → Begins s level lo hi r after

@@ -11,13 +11,9 @@ use Rattle.rule.specs.Refusals.{Outcome, Paper, answered, refused, ofTaken}
 use Rattle.find.specs.declared.Walker.{Walker}
 use Rattle.find.specs.Walking.{walkerAt, startOn, started, stepOn, afterStep}
 use Rattle.sketch.specs.declared.Sketch.{Sketch}
-use Rattle.sketch.specs.declared.parts.Head.{Head}
-use Rattle.sketch.specs.declared.parts.Tried.{Tried}
-use Rattle.sketch.specs.declared.parts.Tried.the-variants as tried
-use Rattle.sketch.specs.Sketches.{held, isSketch, opened, add, merge}
+use Rattle.sketch.specs.Sketches.{opened, add, merge}
 use Rattle.sketch.specs.Calls.{noSketch, handed, openOn, addOn, mergeOn}
 use Rattle.sketch.specs.Estimates.{Weight, exactly, about, estimateOn}
-use Rattle.sketch.specs.Trying.{headFor}
 use Rattle.image.specs.Images.{spelled}
 use Rattle.image.specs.Calls.{writeOn, roomAfter, readOn}
 
@@ -35,10 +31,6 @@ sketchRow k = settingsRow (k .settings) ++ (k .level ∷ k .count ∷ k .cells)
 
 unfoldable pub sketchIn : List ℕ → Sketch
 sketchIn row = record { settings = settingsFrom row; level = getD row 5 0; count = getD row 6 0; cells = drop 7 row }
-
--- all but the cells, and whether the row is a sketch's
-abbrev pub headIn : List ℕ → Head
-headIn row = headFor (isSketch (sketchIn row)) (sketchIn row)
 
 -- a walker as eight numbers: the settings, the level, the position, hi
 unfoldable pub walkerRow : Walker → List ℕ
@@ -67,11 +59,6 @@ pub record Crosses (paper : Paper) (r v : ℕ) : Type 0 where
 pub record Gives (paper : Paper) (next old : Sketch) (r : ℕ) (after : List ℕ) : Type 0 where
   pub number : r ≡ toldNumber paper
   pub row : after ≡ sketchRow (handed paper next old)
-
--- what is kept now in the row, with 0; or the row as it was, with the refusal's number
-abbrev pub Puts : Settings → Tried → List ℕ → List ℕ → ℕ → List ℕ → Type 0
-Puts s (tried.Kept level count) cells before r after = (r ≡ 0) × (after ≡ sketchRow (held s level count cells))
-Puts s (tried.Refused number) cells before r after = (r ≡ number) × (after ≡ before)
 
 -- what opening promises, on a row of settings
 abbrev pub Opens : List ℕ → ℕ → List ℕ → Type 0

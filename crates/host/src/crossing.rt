@@ -2,12 +2,18 @@
 ghost use mathlib.Core.Path.{_≡_};
 ghost use Prim.Native.Nat.{_≤_};
 ghost use lib.ListN.{length, drop};
-ghost use Rattle.sketch.specs.Sketches.{held, isSketch};
-ghost use Rattle.host.specs.Crossing.{settingsFrom, sketchIn, headIn, sketchRow, walkerIn, walkerRow, Puts};
+ghost use Rattle.sketch.specs.Sketches.{held, isSketch, keptOf};
+ghost use Rattle.host.specs.Crossing.{settingsFrom, sketchIn, sketchRow, walkerIn, walkerRow};
 use find::Walker;
 use rule::Settings;
-use sketch::parts::Head;
-use sketch::parts::Tried;
+use sketch::settle::Kept;
+
+// The lengths of the rows.
+pub const SETTINGS: usize = 5;
+
+pub const SKETCH: usize = 511;
+
+pub const WALKER: usize = 8;
 
 // The settings that a row begins with.
 pub fn settings_in(row: &[u32]) -> Settings
@@ -31,14 +37,12 @@ pub fn is_sketch(row: &[u32]) -> bool
     sketch::is_sketch(settings_in(row), row[5], row[6], &row[7..])
 }
 
-// All but the cells, and whether the row is a sketch's.
-pub fn head_in(row: &[u32]) -> Head
+// The level, and how many cells are kept.
+pub fn kept_in(row: &[u32]) -> Kept
     requires { ⌜ length (now row) ≡ 511 ⌝ }
-    ensures { λ r. ⌜ r ≡ headIn (now (row .entry)) ⌝ }
+    ensures { λ r. ⌜ r ≡ keptOf (sketchIn (now (row .entry))) ⌝ }
 {
-    Head {
-        known: is_sketch(row),
-        settings: settings_in(row),
+    Kept {
         level: row[5],
         count: row[6],
     }
@@ -63,22 +67,8 @@ pub fn put_sketch(row: &mut [u32], s: Settings, level: u32, count: u32, cells: &
     requires { ⌜ (length (now row) ≡ 511) × (length (now cells) ≡ 504) ⌝ }
     ensures { λ _. ⌜ now (row .exit) ≡ sketchRow (held s level count (now (cells .entry))) ⌝ }
 {
-    rows::store(row, 7, cells);
+    rows::stores::store(row, 7, cells);
     put_head(row, s, level, count);
-}
-
-// Stores what is kept now and answers 0, or leaves the row and answers the refusal's number.
-pub fn put_tried(row: &mut [u32], s: Settings, tried: Tried, cells: &[u32]) -> u32
-    requires { ⌜ (length (now row) ≡ 511) × (length (now cells) ≡ 504) ⌝ }
-    ensures { λ r. ⌜ Puts s tried (now (cells .entry)) (now (row .entry)) r (now (row .exit)) ⌝ }
-{
-    match tried {
-        Tried::Kept { level, count } => {
-            put_sketch(row, s, level, count, cells);
-            0
-        }
-        Tried::Refused(number) => number,
-    }
 }
 
 pub fn walker_in(row: &[u32]) -> Walker
@@ -93,7 +83,7 @@ pub fn walker_in(row: &[u32]) -> Walker
     }
 }
 
-pub fn walker_row(w: Walker) -> [u32; 8]
+pub fn walker_row(w: Walker) -> [u32; WALKER]
     ensures { λ r. ⌜ r ≡ walkerRow w ⌝ }
 {
     let s = w.settings;

@@ -6,7 +6,7 @@ ghost use Rattle.image.specs.Images.{blocksFor};
 // The bytes of a block, and those before its check.
 pub const BLOCK: usize = 512;
 
-pub const CONTENT: usize = 508;
+pub const CONTENT: usize = block::PLAIN;
 
 // The bytes of the largest image.
 pub const LARGEST: usize = 2560;

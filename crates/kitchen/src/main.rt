@@ -98,7 +98,7 @@ fn step(walker: Walker) -> Walker {
 }
 
 fn same(v: Walker, w: Walker) -> bool {
-    sketch::parts::same_settings(v.settings, w.settings)
+    sketch::order::same_settings(v.settings, w.settings)
         & ((v.level == w.level) & ((v.at == w.at) & (v.hi == w.hi)))
 }
 

@@ -15,7 +15,7 @@ pub mod commands;
 // The largest number of a line, and the bytes of the longest line.
 const LARGEST: u64 = 4294967295;
 
-const LONGEST: usize = 64;
+pub const LONGEST: usize = 64;
 
 fn wide(x: u8) -> u64
     ensures { λ r. ⌜ (r ≡ x) × (x < 256) ⌝ }

@@ -1,17 +1,18 @@
 -- The laws of a walk over a row by an index.
 --     next, take-next     the next element of what is left, and of what is walked
 --     part-rest       the part of a row from an index on, as a slice
+--     slice-next, slice-part      the part between two indices: one element more; what is left from the first index on, up to the second
 --     filter-on, filter-off, filter-room      a turn of a walk that takes the numbers of a set
 --     length-more     one element more
 -- Assumes nothing.
-use mathlib.Core.Path.{_≡_, ap, _∙_}
+use mathlib.Core.Path.{_≡_, sym, ap, _∙_}
 use mathlib.Core.Bool.{Bool, true, false}
 use mathlib.Core.List.{List, [], _∷_, _++_, append-nil}
-use Prim.Native.Nat.{ℕ, suc, _+_, _-_, _<_}
+use Prim.Native.Nat.{ℕ, zero, suc, _+_, _-_, _<_, _≤_}
 use native.Mathlib.Omega.{arith}
 use native.Mathlib.Numerals.{add-one}
 use lib.ListN.{length, take, drop, getD, length-append, length-drop}
-use lib.Seq.{drop-cons, take-suc, take-all, split-at}
+use lib.Seq.{drop-cons, take-suc, take-all, take-nil, split-at, slice, length-take-le, drop-append-le}
 use Rattle.lists.specs.Lists.{filter}
 use Rattle.lists.proofs.Filters.{filter-append}
 
@@ -23,6 +24,15 @@ take-next l i h = rw (add-one, ← take-suc l i 0 h)
 
 pub part-rest : (l : List ℕ) (i : ℕ) → take (length l - i) (drop i l) ≡ drop i l
 part-rest l i = take-all (length l - i) (drop i l) (omega (arith, length-drop i l))
+
+pub slice-next : (f i : ℕ) (l : List ℕ) → f ≤ i → i < length l → slice f (i + 1) l ≡ slice f i l ++ (getD l i 0 ∷ [])
+slice-next f i l k h = ap (drop f) (take-next l i h) ∙ drop-append-le f (take i l) (getD l i 0 ∷ []) (omega (arith, length-take-le i l (omega arith)))
+
+pub slice-part : (f t : ℕ) (l : List ℕ) → slice f t l ≡ take (t - f) (drop f l)
+slice-part zero t l = let e : t - 0 ≡ t = omega arith in rw e
+slice-part (suc f) zero l = let e : 0 - suc f ≡ 0 = omega arith in rw e
+slice-part (suc f) (suc t) [] = sym (take-nil (suc t - suc f))
+slice-part (suc f) (suc t) (x ∷ xs) = let e : suc t - suc f ≡ t - f = omega arith in rw e (slice-part f t xs)
 
 pub length-more : (xs : List ℕ) (x : ℕ) → length (xs ++ (x ∷ [])) ≡ length xs + 1
 length-more xs x = length-append xs (x ∷ [])

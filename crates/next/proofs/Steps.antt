@@ -4,9 +4,9 @@ use mathlib.Core.Path.{_≡_, ap, sym, subst, _∙_}
 use Prim.Native.Nat.{ℕ, zero, suc, _+_, _-_, _*_, _/_, _%_, _<_, _≤_}
 use native.Mathlib.Nat.{lt-of-not-le, mul-le-mul-right, mul-le-mul-left, mod-lt, mod-le, mod-eq-of-lt, mul-add-mod-self-right, div-add-mod'}
 use native.Mathlib.Omega.{arith, by-contra}
-use Rattle.next.specs.Hit.{Hit, Answer}
+use Rattle.next.specs.Hit.{IsBelow, Finds}
 use Rattle.next.specs.Rounds.{HitIn, Least, Searched}
-use Rattle.next.specs.declared.Found.the-variants.{At, Nothing}
+use Rattle.next.specs.declared.Index.the-variants.{At, Nothing}
 
 -- the index of the first element of round 1, and that element modulo p
 abbrev pub first : ℕ → ℕ → ℕ → ℕ
@@ -213,10 +213,10 @@ module _ (p a u l w : ℕ) (t : Searched p a u l w) (pos : 0 < a) where
           raise-hit b d m mirrored-inner i (x .near h) (record { low = omega (arith, x .hit h .high); high = omega (arith, x .hit h .low) })
 
 -- the round of a hit is what the modulus takes away
-hit-in : (p a u l i : ℕ) → Hit p a u l i → HitIn p a u l ((u + i * a) / p) i
+hit-in : (p a u l i : ℕ) → IsBelow p a u l i → HitIn p a u l ((u + i * a) / p) i
 hit-in p a u l i h = let e = div-add-mod' (u + i * a) p in record { low = omega arith; high = omega arith }
 
-in-hit : (p a u l k i : ℕ) → HitIn p a u l k i → Hit p a u l i
+in-hit : (p a u l k i : ℕ) → HitIn p a u l k i → IsBelow p a u l i
 in-hit p a u l k i z =
     let v = u + i * a - k * p in
     let e : u + i * a ≡ k * p + v = omega (arith, z .low) in
@@ -225,33 +225,33 @@ in-hit p a u l k i z =
 
 -- what the search's answer says of the hits among the first n elements
 module _ (p a u l n index round : ℕ) (x : Least p a u l 1 n index round) where
-  found : (i : ℕ) → i < n → Hit p a u l i → (0 < round) × (index ≤ i)
+  found : (i : ℕ) → i < n → IsBelow p a u l i → (0 < round) × (index ≤ i)
   found i h z = x .least i ((u + i * a) / p) (omega arith) (hit-in p a u l i z)
 
-  pub answer-found : 0 < round → index < n → Answer p a u l n (At index)
-  unfolding Answer
+  pub answer-found : 0 < round → index < n → Finds p a u l n (At index)
+  unfolding Finds
   answer-found r h =
       (h, record { hit = in-hit p a u l round index (x .hit r); least = λ i g z. omega (arith, found i (omega arith) z) })
 
-  pub answer-none : round ≡ 0 → Answer p a u l n Nothing
-  unfolding Answer
+  pub answer-none : round ≡ 0 → Finds p a u l n Nothing
+  unfolding Finds
   answer-none r i h z = omega (arith, found i h z)
 
-  pub answer-later : n ≤ index → Answer p a u l n Nothing
-  unfolding Answer
+  pub answer-later : n ≤ index → Finds p a u l n Nothing
+  unfolding Finds
   answer-later g i h z = omega (arith, found i h z)
 
 -- the answers that need no search
-pub answer-empty : (p a u l n : ℕ) → n ≡ 0 → Answer p a u l n Nothing
-unfolding Answer
+pub answer-empty : (p a u l n : ℕ) → n ≡ 0 → Finds p a u l n Nothing
+unfolding Finds
 answer-empty p a u l n e i h z = omega arith
 
-pub answer-zero : (p a u l n : ℕ) → l ≡ 0 → Answer p a u l n Nothing
-unfolding Answer
+pub answer-zero : (p a u l n : ℕ) → l ≡ 0 → Finds p a u l n Nothing
+unfolding Finds
 answer-zero p a u l n e i h z = omega arith
 
-pub answer-here : (p a u l n : ℕ) → u < p → u < l → 0 < n → Answer p a u l n (At 0)
-unfolding Answer
+pub answer-here : (p a u l n : ℕ) → u < p → u < l → 0 < n → Finds p a u l n (At 0)
+unfolding Finds
 answer-here p a u l n up ul pn =
     let z : u + 0 * a ≡ u = omega arith in
     let e : (u + 0 * a) % p ≡ u = ap (λ (y : ℕ). y % p) z ∙ mod-eq-of-lt up in

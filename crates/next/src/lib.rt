@@ -3,14 +3,17 @@
 // (k + 1) * p, before the modulus is taken.
 ghost use mathlib.Core.Path.{_≡_};
 ghost use Prim.Native.Nat.{_/_, _%_, _<_, _≤_};
-ghost use Rattle.next.specs.Hit.{Answer, Progression};
+ghost use Rattle.next.specs.Hit.{Finds, Progression};
 ghost use Rattle.next.specs.Rounds.{Searched, Least};
 
 // The index of the least hit, or that there is none.
-pub enum Found {
+pub enum Index {
     At(u64),
     Nothing,
 }
+
+// An index and a round have 32 bits each.
+const ROUNDS: u64 = 4294967296;
 
 // The index of a hit and the round that it lies in, in one number, which stays in a register: a struct
 // would go through memory at each call of the search. Round 0 says that there is none.
@@ -19,7 +22,7 @@ fn pack(index: u64, round: u64) -> u64
     requires { ⌜ round < 4294967296 ⌝ }
     ensures { λ h. ⌜ (h / 4294967296 ≡ index) × (h % 4294967296 ≡ round) ⌝ }
 {
-    index * 4294967296 + round
+    index * ROUNDS + round
 }
 
 // The least hit, where the first element is none, so that round 0 has none. Where a round has a hit,
@@ -50,16 +53,16 @@ fn search(p: u64, a: u64, u: u64, l: u64, w: u64, b: u64) -> u64
     }
     if r <= a - r {
         let h = search(a, r, a - f + l - 1, l, w * q, b - x);
-        let k = h % 4294967296;
+        let k = h % ROUNDS;
         if 0 < k {
-            let i = h / 4294967296;
+            let i = h / ROUNDS;
             return pack(s + i * q + k - 1, i + 1);
         }
     } else {
         let h = search(a, a - r, f, l, w * q, b - x);
-        let k = h % 4294967296;
+        let k = h % ROUNDS;
         if 0 < k {
-            let i = h / 4294967296;
+            let i = h / ROUNDS;
             return pack(s + i * (q + 1) - k, i + 1);
         }
     }
@@ -67,24 +70,24 @@ fn search(p: u64, a: u64, u: u64, l: u64, w: u64, b: u64) -> u64
 }
 
 // The least i below n for which u + i * a, modulo p, lies below l.
-pub fn next_hit(p: u64, a: u64, u: u64, l: u64, n: u64) -> Found
+pub fn next_hit(p: u64, a: u64, u: u64, l: u64, n: u64) -> Index
     requires { ⌜ Progression p a u ⌝ }
     requires { ⌜ n ≤ 4000000000 ⌝ }
-    ensures { λ r. ⌜ Answer p a u l n r ⌝ }
+    ensures { λ r. ⌜ Finds p a u l n r ⌝ }
 {
     if n == 0 {
-        return Found::Nothing;
+        return Index::Nothing;
     }
     if l == 0 {
-        return Found::Nothing;
+        return Index::Nothing;
     }
     if u < l {
-        return Found::At(0);
+        return Index::At(0);
     }
     let h = search(p, a, u, l, 1, n);
-    if h % 4294967296 == 0 {
-        return Found::Nothing;
+    if h % ROUNDS == 0 {
+        return Index::Nothing;
     }
-    let i = h / 4294967296;
-    if i < n { Found::At(i) } else { Found::Nothing }
+    let i = h / ROUNDS;
+    if i < n { Index::At(i) } else { Index::Nothing }
 }

@@ -11,7 +11,7 @@ use sketch::Sketch;
 
 fn all_zeros(k: Sketch) -> bool {
     let zero = sketch::no_sketch();
-    sketch::parts::same_settings(k.settings, zero.settings)
+    sketch::order::same_settings(k.settings, zero.settings)
         & ((k.level == 0) & ((k.count == 0) & rows::zeros(&k.cells)))
 }
 

@@ -51,7 +51,7 @@ fn compare_numbers(what: &[u8], x: u32, y: u32) {
 // The sketch that was written, and the one that was read.
 fn compare(j: Sketch, k: Sketch) {
     text(b"; same settings: ");
-    print_yes(sketch::parts::same_settings(j.settings, k.settings));
+    print_yes(sketch::order::same_settings(j.settings, k.settings));
     compare_numbers(b"; same level, ", j.level, k.level);
     compare_numbers(b"; same number of cells, ", j.count, k.count);
     text(b"; same cells: ");

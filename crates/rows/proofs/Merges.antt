@@ -1,8 +1,9 @@
--- The laws of a merge of two rising rows: what a turn does to the union that is left.
+-- The laws of a merge of a rising row with the rising cells of another, stored in that other: what a turn does to the union that is left.
 --     Merging, merge-start    a merge under way
 --     Turn, union-next    what a turn stores is the next cell of the union that is left
 --     merge-on        so a turn leads to the next
---     merge-end       where one row is walked to its end, what is left of both is stored
+--     merge-room      what is left of the row that is merged in has room before what is left of the other
+--     merge-end       where one side is walked to its end, what is left of both is stored
 -- Assumes nothing.
 use Prim.Native.Nat.{ℕ, _+_, _-_, _<_, _≤_, min}
 use mathlib.Core.Path.{_≡_, refl, sym, ap, _∙_}
@@ -10,13 +11,13 @@ use mathlib.Core.Logic.{_⊎_, ⊎-elim}
 use mathlib.Core.List.{List, [], _∷_, _++_, append-nil, append-assoc}
 use native.Mathlib.Omega.{arith}
 use native.Mathlib.Nat.{add-zero}
-use lib.ListN.{length, drop, getD, set, length-set, drop-of-length-le}
-use lib.Seq.{append-snoc}
+use lib.ListN.{length, take, drop, getD, set, length-set, length-drop, drop-of-length-le}
+use lib.Seq.{append-snoc, slice, length-take-le, getD-take}
 use borrow.Author.Tests.{lt-ltb, le-ltb}
 use Rattle.lists.specs.Rows.{union, Stored}
 use Rattle.lists.proofs.Tests.{by-order}
 use Rattle.lists.proofs.Steps.{next}
-use Rattle.lists.proofs.Stores.{stored-none, stored-more, stored-then}
+use Rattle.lists.proofs.Stores.{stored-none, stored-more, stored-then, stored-beyond, stored-slice}
 
 -- what a turn makes of the next cells x and y of the two rows: the lesser of them, and by how much each row moves on
 pub record Turn (x y m s t : ℕ) : Type 0 where
@@ -62,36 +63,50 @@ unfolding union
 union-rest a b i j =
     ⊎-elim (λ (h : length a ≤ i). rw (drop-of-length-le a {i = i} h)) (λ (h : length b ≤ j). union-none (drop i a) (drop j b) (drop-of-length-le b {i = j} h))
 
--- `done` is stored, and the union of what is left of the two rows comes after it
-pub record Merging (row a b out : List ℕ) (next i j : ℕ) : Type 0 where
+-- `done` is stored at the start of the row, which is now `out`; after it comes the union of what is left of a and of the row's cells from `at` up to `end`
+pub record Merging (row a : List ℕ) (at end : ℕ) (out : List ℕ) (next i j : ℕ) : Type 0 where
   pub in-a : i ≤ length a
-  pub in-b : j ≤ length b
-  pub few : next ≤ i + j
+  pub to-end : j ≤ end
+  pub few : next + at ≤ i + j
   pub long : length out ≡ length row
   pub done : List ℕ
   pub stored : Stored row 0 done next out
-  pub left : done ++ union (drop i a) (drop j b) ≡ union a b
+  pub left : done ++ union (drop i a) (slice j end row) ≡ union a (slice at end row)
 
-pub merge-start : (row a b : List ℕ) → Merging row a b row 0 0 0
-merge-start row a b =
-    record { in-a = omega arith; in-b = omega arith; few = omega arith; long = refl; done = []; stored = stored-none row 0; left = refl }
+pub merge-start : (row a : List ℕ) (at end : ℕ) → at ≤ end → Merging row a at end row 0 0 at
+merge-start row a at end h =
+    record { in-a = omega arith; to-end = h; few = omega arith; long = refl; done = []; stored = stored-none row 0; left = refl }
 
-pub merge-on : {row a b out : List ℕ} {next i j : ℕ} → Merging row a b out next i j → i < length a → j < length b → length a + length b ≤ length row
-    → {m s t : ℕ} → Turn (getD a i 0) (getD b j 0) m s t → Merging row a b (set out next m) (next + 1) (i + s) (j + t)
-merge-on {row} {a} {b} {out} {next} {i} {j} g h k room {m} {s} {t} w =
-    record {
-      in-a = omega arith;
-      in-b = omega arith;
-      few = omega (arith, g .few);
-      long = length-set out next m ∙ g .long;
-      done = g .done ++ (m ∷ []);
-      stored = stored-more (g .stored) m (omega (arith, g .few));
-      left = append-snoc (g .done) m _ ∙ (rw (union-next a b i j h k w) at (g .left));
-    }
+module _ {row a : List ℕ} {at end : ℕ} {out : List ℕ} {next i j : ℕ} (g : Merging row a at end out next i j) (few-a : length a ≤ at)
+    (room : end ≤ length row) where
+  in-row : length (take end row) ≡ end
+  in-row = length-take-le end row room
 
-pub merge-end : {row a b out : List ℕ} {next i j : ℕ} → Merging row a b out next i j → (length a ≤ i) ⊎ (length b ≤ j)
-    → {m last : ℕ} {mid after : List ℕ} → Stored out next (drop i a) m mid → Stored mid m (drop j b) last after → Stored row 0 (union a b) last after
-merge-end {row} {a} {b} {out} {next} {i} {j} g one s t =
-    let e : (g .done ++ drop i a) ++ drop j b ≡ union a b =
-    append-assoc (g .done) (drop i a) (drop j b) ∙ ap (λ (r : List ℕ). g .done ++ r) (sym (union-rest a b i j one)) ∙ g .left in
-    rw e at (stored-then (stored-then (g .stored) (drop i a) s (omega arith)) (drop j b) t (omega arith))
+  pub merge-on : i < length a → j < end → {m s t : ℕ} → Turn (getD a i 0) (getD out j 0) m s t
+      → Merging row a at end (set out next m) (next + 1) (i + s) (j + t)
+  merge-on h k {m} {s} {t} w =
+      let read : getD out j 0 ≡ getD (take end row) j 0 =
+      stored-beyond (g .stored) (omega arith) j (omega (arith, g .few)) ∙ sym (getD-take end row j 0 k) in
+      record {
+        in-a = omega arith;
+        to-end = omega arith;
+        few = omega (arith, g .few);
+        long = length-set out next m ∙ g .long;
+        done = g .done ++ (m ∷ []);
+        stored = stored-more (g .stored) m (omega (arith, g .few));
+        left = append-snoc (g .done) m _ ∙ (rw (union-next a (take end row) i j h (omega (arith, in-row)) (rw read at w)) at (g .left));
+      }
+
+  -- what is left of a is stored before the cells that are left in the row
+  module _ {m : ℕ} {mid : List ℕ} (s : Stored out next (drop i a) m mid) where
+    pub merge-room : m ≤ j
+    merge-room = omega (arith, s .next-place, length-drop i a, g .few, g .in-a)
+
+    pub merge-end : (length a ≤ i) ⊎ (end ≤ j) → {last : ℕ} {after : List ℕ} → Stored mid m (slice j end mid) last after
+        → Stored row 0 (union a (slice at end row)) last after
+    merge-end one t =
+        let u = stored-then (g .stored) (drop i a) s (omega arith) in
+        let rest = union-rest a (take end row) i j (rw in-row one) in
+        let e : (g .done ++ drop i a) ++ slice j end row ≡ union a (slice at end row) =
+        append-assoc (g .done) (drop i a) (slice j end row) ∙ ap (λ (r : List ℕ). g .done ++ r) (sym rest) ∙ g .left in
+        rw e at (stored-then u (slice j end row) (rw (stored-slice u (omega arith) j end merge-room) at t) (omega arith))

@@ -11,9 +11,9 @@ use native.Mathlib.Omega.{arith, by-contra}
 use native.Mathlib.Decide.{decLe}
 use native.Mathlib.Nat.{mod-add-mod, add-mod-mod, add-mul-mod-self-right, mod-eq-of-lt, div-add-mod', mod-lt}
 use borrow.Author.Tests.{ltb-true, ltb-false}
-use Rattle.next.specs.Hit.{Answer}
-use Rattle.next.specs.declared.Found.{Found}
-use Rattle.next.specs.declared.Found.the-variants.{At, Nothing}
+use Rattle.next.specs.Hit.{Finds}
+use Rattle.next.specs.declared.Index.{Index}
+use Rattle.next.specs.declared.Index.the-variants.{At, Nothing}
 use Rattle.next.proofs.Laws.{answer-at, answer-nothing}
 use Rattle.rows.specs.declared.strides.Stride.{Stride}
 use Rattle.rows.specs.Striding.{Shortest}
@@ -117,7 +117,7 @@ across {p} {a} {b} {size} {far} {r} {o} {d} {h} {g} whole small l other some nea
     ]
 
 -- an answer of crate `next`, for the progression a, 2 a, 3 a, ..
-module _ (p a size far : ℕ) (x : Found) (f : Answer p a a size far x) where
+module _ (p a size far : ℕ) (x : Index) (f : Finds p a a size far x) where
   -- element i of it
   element : (i d : ℕ) → d ≡ i + 1 → (a + i * a) % p ≡ d * a % p
   element i d e = ap (λ (y : ℕ). y % p) (omega (arith, ap (λ (y : ℕ). y * a) e))

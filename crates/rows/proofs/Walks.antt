@@ -1,6 +1,7 @@
--- The turns and the end of the walks over a row that test it, a test of the hash that says which cells pass, and a search by halving.
+-- The turns and the end of the walks over a row that test it or store what passes, a test of the hash that says which cells pass, and a search by halving.
 --     same-settings, hasher-ready     the hasher of a walk
 --     passes-test, passes-on, passes-off      a test of the hash
+--     passing-room, passing-on, passing-off       the room and the turn of `store_passing` and `keep_passing`
 --     test-on, test-end       the walks of `in_order`, `all_pass` and `zeros`
 --     none-seen      what `zeros` has seen
 --     all-pass-zero      at level 0 every cell passes
@@ -14,11 +15,13 @@ use mathlib.Core.List.{List, [], _∷_}
 use native.Mathlib.Omega.{arith}
 use lib.Bits.{bitOr, or-zero-l, or-add-and, and-le-r}
 use lib.Dec.{ltb, eqb}
-use lib.ListN.{length, drop, getD, drop-of-length-le}
+use lib.ListN.{length, take, drop, getD, set, drop-of-length-le}
 use borrow.Author.Tests.{lt-ltb, le-ltb, eqb-true, eq-eqb}
 use Rattle.lists.specs.Lists.{filter}
+use Rattle.lists.specs.Rows.{Stored}
 use Rattle.lists.proofs.Tests.{tested}
-use Rattle.lists.proofs.Steps.{next}
+use Rattle.lists.proofs.Steps.{next, filter-on, filter-off, filter-room}
+use Rattle.lists.proofs.Stores.{stored-more}
 use Rattle.rule.specs.declared.Settings.{Settings}
 use Rattle.rule.specs.declared.Hasher.{Hasher}
 use Rattle.rule.specs.Rule.{Good, hash, Ready, hasherOf, region, passes}
@@ -44,6 +47,23 @@ module _ {s : Settings} {hasher : Hasher} (made : hasher ≡ hasherOf s) where
 
     pub passes-off : size ≤ h → passes (hasher .settings) level x ≡ false
     passes-off l = sym passes-test ∙ le-ltb h size l
+
+    -- A walk over l that stores the cells that pass. x was read as its cell i, from l itself or from what l has become since.
+    module _ (l : List ℕ) (i : ℕ) (within : i < length l) (read : x ≡ getD l i 0) {row : List ℕ} {k place : ℕ} {after : List ℕ}
+        (g : Stored row k (filter (passes (hasher .settings) level) (take i l)) place after) where
+      pub passing-room : h < size → place < k + length (filter (passes s level) l)
+      passing-room t =
+          let X = passes (hasher .settings) level in
+          let r : place < k + length (filter X l) = omega (arith, g .next-place, filter-room X l i within (ap X (sym read) ∙ passes-on t)) in
+          rw same-settings at r
+
+      pub passing-on : h < size → place < length row → Stored row k (filter (passes (hasher .settings) level) (take (i + 1) l)) (place + 1) (set after place x)
+      passing-on t room =
+          let X = passes (hasher .settings) level in
+          rw (filter-on X l i within (ap X (sym read) ∙ passes-on t), ← read) (stored-more g x room)
+
+      pub passing-off : size ≤ h → Stored row k (filter (passes (hasher .settings) level) (take (i + 1) l)) place after
+      passing-off t = let X = passes (hasher .settings) level in rw (filter-off X l i within (ap X (sym read) ∙ passes-off t)) g
 
 -- A walk that tests every cell: t is the test so far, f what is to hold of the cells from i on, and g of those after cell i.
 module _ (l : List ℕ) (i : ℕ) (t r : Bool) (f : List ℕ → Bool) (e : (t && f (drop i l)) ≡ r) where

@@ -1,21 +1,17 @@
-// Walks over rows of cells: one loop each.
+// Walks over rows of cells that test, count and search: one loop each.
 ghost use mathlib.Core.Path.{_≡_};
 ghost use mathlib.Core.Bool.{true};
-ghost use Prim.Native.Nat.{ℕ, _+_, _-_, _≤_, min};
+ghost use Prim.Native.Nat.{_+_, _-_};
 ghost use lib.ListN.{length};
-ghost use Rattle.lists.specs.Lists.{filter, range};
-ghost use Rattle.lists.specs.Rows.{allZero, union, Stored};
+ghost use Rattle.lists.specs.Lists.{filter};
+ghost use Rattle.lists.specs.Rows.{allZero};
 ghost use Rattle.rule.specs.Rule.{Good, passes};
-ghost use Rattle.rule.specs.Samples.{rangeCount};
-ghost use Rattle.find.specs.Finding.{Within};
 ghost use Rattle.rows.specs.Walked.{cellsBelow, Ascending, allIn, inOrder, risesFrom};
 
+pub mod stores;
 pub mod strides;
 
 use rule::Settings;
-use rule::answers::Found;
-use strides::Hit;
-use strides::Strides;
 
 // The cells of the row rise strictly from above 0, and each is at most n and passes at the level.
 // At level 0 every cell passes, and no hash is asked for.
@@ -112,132 +108,4 @@ pub fn count_passing(settings: Settings, level: u32, row: &[u32]) -> usize
         }
     }
     many
-}
-
-// Stores the row's cells in `out` from place `at` on; answers the place after them.
-pub fn store(out: &mut [u32], at: usize, row: &[u32]) -> usize
-    requires { ⌜ at + length (now row) ≤ length (now out) ⌝ }
-    ensures { λ r. ⌜ Stored (now (out .entry)) at (now (row .entry)) r (now (out .exit)) ⌝ }
-{
-    let mut i: usize = 0;
-    while i < row.len() {
-        out[at + i] = row[i];
-        i = i + 1;
-    }
-    at + i
-}
-
-// The same for those that pass at the level.
-pub fn store_passing(
-    out: &mut [u32],
-    at: usize,
-    settings: Settings,
-    level: u32,
-    row: &[u32],
-) -> usize
-    requires { ⌜ Good settings × (at + length (filter (passes settings level) (now row)) ≤ length (now out)) ⌝ }
-    ensures { λ r. ⌜ Stored (now (out .entry)) at (filter (passes settings level) (now (row .entry))) r (now (out .exit)) ⌝ }
-{
-    let size = settings.region(level);
-    let hasher = settings.hasher();
-    let mut next = at;
-    let mut i: usize = 0;
-    while i < row.len() {
-        let x = row[i];
-        i = i + 1;
-        if hasher.hash(x) < size {
-            out[next] = x;
-            next = next + 1;
-        }
-    }
-    next
-}
-
-// The same for the cells of first..hi that pass at the level, of which `first` is one: from each hit
-// by its distance to the next, with no search.
-fn store_along(
-    out: &mut [u32],
-    at: usize,
-    settings: Settings,
-    level: u32,
-    first: u32,
-    hi: u32,
-) -> usize
-    requires { ⌜ Within settings first hi × (first ≤ hi) × (passes settings level first ≡ true)
-        × (at + rangeCount settings level first hi ≤ length (now out)) ⌝ }
-    ensures { λ r. ⌜ Stored (now (out .entry)) at (filter (passes settings level) (range first hi)) r (now (out .exit)) ⌝ }
-{
-    let far = hi - first;
-    let strides = Strides::of(settings, level, far);
-    let mut hit = Hit {
-        cell: first,
-        hash: settings.hash(first) as u32,
-    };
-    let mut next = at;
-    while hit.cell <= hi {
-        out[next] = hit.cell;
-        next = next + 1;
-        hit = strides.next(settings, level, far, hit);
-    }
-    next
-}
-
-// The same for the cells of lo..hi that pass at the level; the caller has counted them.
-pub fn store_hits(
-    out: &mut [u32],
-    at: usize,
-    settings: Settings,
-    level: u32,
-    lo: u32,
-    hi: u32,
-    many: usize,
-) -> usize
-    requires { ⌜ Within settings lo hi × (many ≡ rangeCount settings level lo hi) × (at + many ≤ length (now out)) ⌝ }
-    ensures { λ r. ⌜ Stored (now (out .entry)) at (filter (passes settings level) (range lo hi)) r (now (out .exit)) ⌝ }
-{
-    if many == 0 {
-        return at;
-    }
-    match find::first_in(settings, level, lo, hi) {
-        Found::Cell(x) => {
-            if many == 1 {
-                out[at] = x;
-                return at + 1;
-            }
-            store_along(out, at, settings, level, x, hi)
-        }
-        // There is a first one, and `first_in` refuses nothing.
-        Found::Nothing => at,
-        Found::Refused(_) => at,
-    }
-}
-
-// 1 where x is at most y, else 0: a function of its own, so that it compiles to a test's value and
-// not to a branch.
-fn step(x: u32, y: u32) -> usize
-    ensures { λ r. ⌜ r ≡ min 1 (y + 1 - x) ⌝ }
-{
-    if x <= y { 1 } else { 0 }
-}
-
-// Stores the union of two rising rows in `out`, rising; answers how many cells it has. A turn
-// stores the lesser of the two next cells, and each row that has it there moves on: which of them
-// can't be foretold, so a turn has no branch.
-pub fn store_union(out: &mut [u32], a: &[u32], b: &[u32]) -> usize
-    requires { ⌜ length (now a) + length (now b) ≤ length (now out) ⌝ }
-    ensures { λ r. ⌜ Stored (now (out .entry)) 0 (union (now (a .entry)) (now (b .entry))) r (now (out .exit)) ⌝ }
-{
-    let mut next: usize = 0;
-    let mut i: usize = 0;
-    let mut j: usize = 0;
-    while i < a.len() && j < b.len() {
-        let x = a[i];
-        let y = b[j];
-        out[next] = rule::lesser(x, y);
-        next = next + 1;
-        i = i + step(x, y);
-        j = j + step(y, x);
-    }
-    let m = store(out, next, &a[i..]);
-    store(out, m, &b[j..])
 }

@@ -27,14 +27,14 @@ impl Stride {
         let modulus = wide(p);
         let step = wide(a);
         match next::next_hit(modulus, step, step, wide(size), wide(far)) {
-            next::Found::At(i) => {
+            next::Index::At(i) => {
                 let d = i + 1;
                 Stride {
                     distance: d as u32,
                     change: (d * step % modulus) as u32,
                 }
             }
-            next::Found::Nothing => Stride {
+            next::Index::Nothing => Stride {
                 distance: far + 1,
                 change: size,
             },

@@ -7,6 +7,15 @@ ghost use Rattle.rule.specs.Rule.{noSettings, Good, commonDivisor, isGoo
 pub mod answers;
 pub mod refusals;
 
+// The greatest n, and the greatest capacity, which is how many places a sketch has. Contracts and
+// definitions write the numbers out.
+pub const GREATEST_N: u32 = 200000000;
+
+pub const GREATEST_CAPACITY: u32 = 504;
+
+// A rounded fraction has 32 binary places.
+const ONE: u64 = 4294967296;
+
 pub struct Settings {
     pub n: u32,
     pub p: u32,
@@ -97,14 +106,15 @@ impl Settings {
         let n = wide(self.n);
         let p = wide(self.p);
         (1 <= self.n)
-            & ((self.n <= 200000000)
+            & ((self.n <= GREATEST_N)
                 & ((10 * n <= p)
                     & ((p <= 20 * n)
                         & ((1 <= self.a)
                             & ((self.a < self.p)
                                 & ((common_divisor(self.a, self.p) == 1)
                                     & ((self.b < self.p)
-                                        & ((1 <= self.capacity) & (self.capacity <= 504)))))))))
+                                        & ((1 <= self.capacity)
+                                            & (self.capacity <= GREATEST_CAPACITY)))))))))
     }
 
     // The product of two numbers of 32 bits and a third fit 64 bits: so does the hash where p is 0,
@@ -129,8 +139,8 @@ impl Settings {
         ensures { λ r. ⌜ r ≡ hasherOf self ⌝ }
     {
         let p = wide(self.p);
-        let slope = wide(self.a) * 4294967296 / p;
-        let start = wide(self.b) * 4294967296 / p;
+        let slope = wide(self.a) * ONE / p;
+        let start = wide(self.b) * ONE / p;
         Hasher {
             settings: self,
             slope: slope as u32,

@@ -3,33 +3,34 @@
 --     open-good, open-bad    the answer to opening
 --     add-unknown, add-outside, add-done    the answers to adding, in their order
 --     merge-unknown, merge-other, merge-unequal, merge-done    the answers to merging, in their order
---     add-bad, add-in, merge-both    the same of sketches
---     known-head       what a sketch's parts give the calls on parts
---     keeps-sketch     what those keep is the sketch of the set
---     tries-add, tries-merge    what they promise is what is handed back
+--     add-granted, merge-granted    where nothing refuses the call, all its tests held
+--     add-bad, add-in, merge-both, add-told, merge-told    the same of sketches
+--     row-kept     what a sketch gives the work on its cells
+--     keeps-sketch, keeps-cut, kept-add, kept-merge    what that keeps is the next sketch
 -- Assumes nothing.
-use mathlib.Core.Path.{_≡_, refl, sym, ap, _∙_}
+use mathlib.Core.Path.{_≡_, sym, ap, _∙_}
 use mathlib.Core.Bool.{Bool, true, false}
 use mathlib.Core.List.{List, []}
-use Prim.Native.Nat.{ℕ}
-use lib.ListN.{length}
+use Prim.Native.Nat.{ℕ, _≤_, max}
+use native.Mathlib.Omega.{arith}
+use lib.ListN.{length, take}
+use Rattle.lists.specs.Lists.{listed}
 use Rattle.lists.specs.Rows.{pad}
+use Rattle.lists.proofs.Places.{pad-cut}
 use Rattle.rule.specs.declared.Settings.{Settings}
-use Rattle.rule.specs.Cells.{Cells}
-use Rattle.rule.specs.Rule.{isGood}
-use Rattle.rule.specs.Samples.{sample}
-use Rattle.rule.specs.Refusals.{Paper, answered, refused, badSettings, badRange, notOne, unequal}
+use Rattle.rule.specs.Cells.{Cells, _∪_, interval}
+use Rattle.rule.specs.Rule.{Good, isGood, top}
+use Rattle.rule.specs.Samples.{sample, fits}
+use Rattle.rule.specs.Refusals.{Paper, answered, refused, unless, badSettings, badRange, notOne, unequal}
+use Rattle.rule.proofs.Samples.{fits-few, lowest-fits}
 use Rattle.find.specs.Finding.{inRange}
+use Rattle.find.proofs.Checks.{unless-told}
 use Rattle.sketch.specs.declared.Sketch.{Sketch}
 use Rattle.sketch.specs.declared.Changed.{Changed}
-use Rattle.sketch.specs.declared.parts.Head.{Head}
-use Rattle.sketch.specs.declared.parts.Tried.{Tried}
-use Rattle.sketch.specs.declared.parts.Tried.the-variants as tried
-use Rattle.sketch.specs.Settling.{Keeps}
-use Rattle.sketch.specs.Sketches.{held, sketchAt, cellsOf, isSketch, Sound, sketchFrom, add, merge}
+use Rattle.sketch.specs.Settling.{Keeps, keptIn, KeptIn}
+use Rattle.sketch.specs.Sketches.{held, sketchAt, cellsOf, keptOf, isSketch, Sound, sketchFrom, add, merge}
 use Rattle.sketch.specs.Calls.{openOn, addWhen, addOn, mergeWhen, mergeOn, sameSettings, doneWith, refusedWith, Hands}
-use Rattle.sketch.specs.Trying.{headFor, Known, Tries, TriesAdd, TriesMerge, giving}
-use Rattle.sketch.proofs.Facts.{count-few}
+use Rattle.sketch.proofs.Facts.{same-facts, count-few}
 
 pub hands-done : (paper : Paper) (next old : Sketch) (r : Changed) → paper ≡ answered [] → r ≡ doneWith next → Hands paper next old r
 hands-done paper next old r e q = record { answer = cc; sketch = cc }
@@ -46,54 +47,77 @@ pub open-bad : (s : Settings) → isGood s ≡ false → openOn s ≡ refused ba
 unfolding openOn
 open-bad s e = rw e
 
-module _ (h : Head) (lo hi : ℕ) where
-  pub add-unknown : h .known ≡ false → refused notOne 0 ≡ addWhen (h .known) (h .settings) lo hi
+-- the answers to adding, and what an answer says
+module _ (known : Bool) (s : Settings) (lo hi : ℕ) where
+  pub add-unknown : known ≡ false → refused notOne 0 ≡ addWhen known s lo hi
   add-unknown e = rw e
 
-  pub add-outside : h .known ≡ true → inRange (h .settings) lo hi ≡ false → refused badRange 0 ≡ addWhen (h .known) (h .settings) lo hi
+  pub add-outside : known ≡ true → inRange s lo hi ≡ false → refused badRange 0 ≡ addWhen known s lo hi
   add-outside e f = rw (e, f)
 
-  pub add-done : h .known ≡ true → inRange (h .settings) lo hi ≡ true → answered [] ≡ addWhen (h .known) (h .settings) lo hi
+  pub add-done : known ≡ true → inRange s lo hi ≡ true → answered [] ≡ addWhen known s lo hi
   add-done e f = rw (e, f)
 
-module _ (h g : Head) where
-  pub merge-unknown : h .known ≡ false → refused notOne 0 ≡ mergeWhen (h .known) (h .settings) (g .known) (g .settings)
+  pub add-granted : answered [] ≡ addWhen known s lo hi → (known ≡ true) × (inRange s lo hi ≡ true)
+  add-granted e =
+      let one = unless-told known notOne (unless (inRange s lo hi) badRange (answered [])) [] (sym e) in
+      (one .0, unless-told (inRange s lo hi) badRange (answered []) [] (one .1) .0)
+
+-- and to merging
+module _ (mine its : Bool) (s t : Settings) where
+  pub merge-unknown : mine ≡ false → refused notOne 0 ≡ mergeWhen mine s its t
   merge-unknown e = rw e
 
-  pub merge-other : h .known ≡ true → g .known ≡ false → refused notOne 0 ≡ mergeWhen (h .known) (h .settings) (g .known) (g .settings)
+  pub merge-other : mine ≡ true → its ≡ false → refused notOne 0 ≡ mergeWhen mine s its t
   merge-other e f = rw (e, f)
 
-  module _ (e : h .known ≡ true) (f : g .known ≡ true) where
-    pub merge-unequal : sameSettings (h .settings) (g .settings) ≡ false → refused unequal 0 ≡ mergeWhen (h .known) (h .settings) (g .known) (g .settings)
-    merge-unequal q = rw (e, f, q)
+  pub merge-unequal : mine ≡ true → its ≡ true → sameSettings s t ≡ false → refused unequal 0 ≡ mergeWhen mine s its t
+  merge-unequal e f q = rw (e, f, q)
 
-    pub merge-done : sameSettings (h .settings) (g .settings) ≡ true → answered [] ≡ mergeWhen (h .known) (h .settings) (g .known) (g .settings)
-    merge-done q = rw (e, f, q)
+  pub merge-done : mine ≡ true → its ≡ true → sameSettings s t ≡ true → answered [] ≡ mergeWhen mine s its t
+  merge-done e f q = rw (e, f, q)
+
+  pub merge-granted : answered [] ≡ mergeWhen mine s its t → (mine ≡ true) × (its ≡ true) × (s ≡ t)
+  merge-granted e =
+      let last = unless (sameSettings s t) unequal (answered []) in
+      let one = unless-told mine notOne (unless its notOne last) [] (sym e) in
+      let two = unless-told its notOne last [] (one .1) in
+      (one .0, two .0, same-facts s t (unless-told (sameSettings s t) unequal (answered []) [] (two .1) .0))
 
 module _ (k : Sketch) (lo hi : ℕ) where
   pub add-bad : isSketch k ≡ true → inRange (k .settings) lo hi ≡ false → addOn k lo hi ≡ refused badRange 0
   unfolding addOn
-  add-bad e f = sym (add-outside (headFor (isSketch k) k) lo hi e f)
+  add-bad e f = sym (add-outside (isSketch k) (k .settings) lo hi e f)
 
   pub add-in : isSketch k ≡ true → inRange (k .settings) lo hi ≡ true → addOn k lo hi ≡ answered []
   unfolding addOn
-  add-in e f = sym (add-done (headFor (isSketch k) k) lo hi e f)
+  add-in e f = sym (add-done (isSketch k) (k .settings) lo hi e f)
 
 pub merge-both : (j k : Sketch) → isSketch j ≡ true → isSketch k ≡ true → sameSettings (j .settings) (k .settings) ≡ true → mergeOn j k ≡ answered []
 unfolding mergeOn
-merge-both j k e f g = sym (merge-done (headFor (isSketch j) j) (headFor (isSketch k) k) e f g)
+merge-both j k e f g = sym (merge-done (isSketch j) (isSketch k) (j .settings) (k .settings) e f g)
 
-pub known-head : {known : Bool} {h : Head} (k : Sketch) → h ≡ headFor known k → length (k .cells) ≡ 504 → (known ≡ true → Sound k) → Known h (k .cells)
+-- the answer where it is known of a sketch that it is one
+pub add-told : {known : Bool} {p : Paper} (k : Sketch) (lo hi : ℕ) → known ≡ isSketch k → p ≡ addWhen known (k .settings) lo hi → p ≡ addOn k lo hi
+unfolding addOn
+add-told k lo hi e q = q ∙ ap (λ (t : Bool). addWhen t (k .settings) lo hi) e
+
+pub merge-told : {mine its : Bool} {p : Paper} (j k : Sketch) → mine ≡ isSketch j → its ≡ isSketch k → p ≡ mergeWhen mine (j .settings) its (k .settings)
+    → p ≡ mergeOn j k
+unfolding mergeOn
+merge-told {mine} {its} j k e f q =
+    q ∙ ap (λ (t : Bool). mergeWhen t (j .settings) its (k .settings)) e ∙ ap (λ (t : Bool). mergeWhen (isSketch j) (j .settings) t (k .settings)) f
+
+-- a sketch's row holds cells kept at its level
+pub row-kept : (k : Sketch) → length (k .cells) ≡ 504 → Sound k → KeptIn (k .settings) (keptOf k) (k .cells)
 unfolding cellsOf
-known-head k q e f =
-    rw q
+row-kept k e w =
     record {
-      sized = e;
-      within = λ o. count-few k (f o);
-      kept = λ o. let w = f o in record { good = w .settings; low = w .level; few = w .few; rise = w .rise; pass = w .pass };
+      within = omega (arith, count-few k w);
+      kept = record { good = w .settings; low = w .level; few = w .few; rise = w .rise; pass = w .pass };
     }
 
-pub keeps-sketch : {s : Settings} {X : Cells} {here level count : ℕ} {row : List ℕ} → Keeps s X here level count row
+pub keeps-sketch : {s : Settings} {X : Cells} {here level count : ℕ} {row : List ℕ} → Keeps s X here 504 level count row
     → held s level count row ≡ sketchFrom s X here
 unfolding sketchFrom sketchAt
 keeps-sketch {s} {X} {here} {level} {count} {row} k =
@@ -101,20 +125,33 @@ keeps-sketch {s} {X} {here} {level} {count} {row} k =
     ∙ ap (held s level (length (sample s X level))) (k .contents)
     ∙ ap (λ (l : ℕ). held s l (length (sample s X l)) (pad 504 (sample s X l))) (k .lowest-level)
 
-tries-hands : {paper : Paper} {X : Cells} {here : ℕ} {row : List ℕ} (k : Sketch) (t : Tried) → Tries paper (k .settings) X here t row
-    → Hands paper (sketchFrom (k .settings) X here) k (giving k t row)
-tries-hands {paper} {X} {here} k (tried.Kept level count) t =
-    hands-done paper (sketchFrom (k .settings) X here) k _ (sym (t .answer)) (ap doneWith (keeps-sketch (t .leaves)))
-tries-hands {paper} {X} {here} k (tried.Refused number) t = hands-refused paper (sketchFrom (k .settings) X here) k number _ (sym (t .answer)) refl
+-- what is kept of a set fits into 504 places, so a longer row may be cut there
+pub keeps-cut : {s : Settings} {X : Cells} {here level count : ℕ} {row : List ℕ} → Good s → here ≤ top s → Keeps s X here 1008 level count row
+    → Keeps s X here 504 level count (take 504 row)
+keeps-cut {s} {X} {here} {level} g low k =
+    let few : length (sample s X level) ≤ 504 = omega (
+      arith,
+      g .capacity-high,
+      fits-few s X level (ap (fits s X) (k .lowest-level) ∙ lowest-fits s g X here low),
+    ) in
+    record {
+      lowest-level = k .lowest-level;
+      number = k .number;
+      contents = ap (take 504) (k .contents) ∙ pad-cut 504 1008 (sample s X level) few (omega arith);
+    }
 
--- what the calls on parts promise is what is handed back
-module _ {h : Head} {t : Tried} {row : List ℕ} {r : Changed} (k : Sketch) (known : Bool) (e : h ≡ headFor known k) (q : r ≡ giving k t row) where
-  pub tries-add : (lo hi : ℕ) → TriesAdd h (k .cells) lo hi t row → Hands (addWhen known (k .settings) lo hi) (add k lo hi) k r
+-- what adding and merging on the cells lent keep is the next sketch
+module _ (k : Sketch) {level count : ℕ} {row : List ℕ} where
+  pub kept-add : (lo hi : ℕ) → Keeps (k .settings) (listed (keptIn (keptOf k) (k .cells)) ∪ interval lo hi) (k .level) 504 level count row
+      → held (k .settings) level count row ≡ add k lo hi
   unfolding add cellsOf
-  tries-add lo hi w = rw q (tries-hands k t (rw e at w))
+  kept-add lo hi w = keeps-sketch w
 
-  pub tries-merge : {g : Head} (j : Sketch) (its : Bool) → g ≡ headFor its j → known ≡ isSketch k → its ≡ isSketch j
-      → TriesMerge h (k .cells) g (j .cells) t row
-      → Hands (mergeOn k j) (merge k j) k r
-  unfolding merge mergeOn cellsOf
-  tries-merge j its f a b w = rw (q, ← a, ← b) (tries-hands k t (rw (e, f) at w))
+  pub kept-merge : (j : Sketch) → Sound k → Sound j → k .settings ≡ j .settings
+      → Keeps (k .settings) (listed (keptIn (keptOf k) (k .cells)) ∪ listed (keptIn (keptOf j) (j .cells))) (max (k .level) (j .level)) 1008 level count row
+      → held (k .settings) level count (take 504 row) ≡ merge k j
+  unfolding merge cellsOf
+  kept-merge j w v e g = keeps-sketch (keeps-cut (w .settings) (omega (arith, w .level, top-same)) g)
+    where
+      top-same : j .level ≤ top (k .settings)
+      top-same = rw e (v .level)

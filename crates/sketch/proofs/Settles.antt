@@ -26,7 +26,7 @@ pub zeros-sized : (out : List ℕ) → out ≡ replicate 504 0 → length out �
 zeros-sized out e = let z : length (replicate {A = ℕ} 504 0) ≡ 504 = length-replicate {A = ℕ} 504 0 in ap length e ∙ z
 
 module _ {s : Settings} (X : Cells) (level : ℕ) {count : ℕ} {out row : List ℕ} (g : Stored out 0 (sample s X level) count row) where
-  pub keeps-stored : (here : ℕ) → level ≡ lowest s X here → out ≡ replicate 504 0 → Keeps s X here level count row
+  pub keeps-stored : (here : ℕ) → level ≡ lowest s X here → out ≡ replicate 504 0 → Keeps s X here 504 level count row
   keeps-stored here e z =
       record {
         lowest-level = e;
@@ -37,9 +37,9 @@ module _ {s : Settings} (X : Cells) (level : ℕ) {count : ℕ} {out row : List 
   pub stored-few : Good s → fits s X level ≡ true → count ≤ 504
   stored-few w e = omega (arith, g .next-place, fits-few s X level e, w .capacity-high)
 
-pub keeps-agree : {s : Settings} {here level count : ℕ} {row : List ℕ} (X Y : Cells) → Agree s here X Y → Keeps s X here level count row
-    → Keeps s Y here level count row
-keeps-agree {s} {here} {level} X Y a k =
+pub keeps-agree : {s : Settings} {here places level count : ℕ} {row : List ℕ} (X Y : Cells) → Agree s here X Y → Keeps s X here places level count row
+    → Keeps s Y here places level count row
+keeps-agree {s} {here} {places} {level} X Y a k =
     let same : sample s X level ≡ sample s Y level = sample-same s here level X Y (omega (arith, k .lowest-level, lowest-from s X here)) a in
     record {
       lowest-level = k .lowest-level ∙ lowest-same s here X Y a;

@@ -2,5 +2,4 @@
 pub mod Sketches
 pub mod Settling
 pub mod Calls
-pub mod Trying
 pub mod Estimates

@@ -2,13 +2,14 @@
 use Prim.Native.Nat.{ℕ, suc, _+_, _-_, _≤_}
 use mathlib.Core.Path.{_≡_}
 use mathlib.Core.Bool.{true}
-use mathlib.Core.List.{List}
-use lib.ListN.{length}
+use mathlib.Core.List.{List, []}
+use lib.ListN.{length, take}
 use Rattle.lists.specs.Lists.{listed, filter, Rising}
-use Rattle.lists.specs.Rows.{pad}
+use Rattle.lists.specs.Rows.{pad, Stored}
 use Rattle.rule.specs.declared.Settings.{Settings}
 use Rattle.rule.specs.Cells.{Cells, _∪_, interval}
 use Rattle.rule.specs.Rule.{Good, passes, top}
+use Rattle.sketch.specs.declared.settle.Kept.{Kept}
 use Rattle.rule.specs.Samples.{sample, fits, lowest, rangeCount}
 
 -- cells kept at a level: of the grid, rising, all passing there, and few enough
@@ -26,12 +27,21 @@ pub record AddsTo (s : Settings) (level : ℕ) (cells : List ℕ) (lo hi : ℕ) 
   pub up : lo ≤ hi
   pub last : hi ≤ s .n
 
+-- the cells kept in a row: its first ones
+abbrev pub keptIn : Kept → List ℕ → List ℕ
+keptIn k row = take (k .count) row
+
+-- cells kept at a level stand in a row
+pub record KeptIn (s : Settings) (k : Kept) (row : List ℕ) : Type 0 where
+  pub within : k .count ≤ length row
+  pub kept : KeptAt s (k .level) (keptIn k row)
+
 -- what is kept of a set, where no level below `here` may be used:
--- the lowest level at which it fits, and its sample there, in a row of 504 places with zeros after it
-pub record Keeps (s : Settings) (X : Cells) (here level count : ℕ) (row : List ℕ) : Type 0 where
+-- the lowest level at which it fits, and its sample there, in a row of so many places with zeros after it
+pub record Keeps (s : Settings) (X : Cells) (here places level count : ℕ) (row : List ℕ) : Type 0 where
   pub lowest-level : level ≡ lowest s X here
   pub number : count ≡ length (sample s X level)
-  pub contents : row ≡ pad 504 (sample s X level)
+  pub contents : row ≡ pad places (sample s X level)
 
 -- the cells of a row before lo and of one after hi, with those of lo..hi
 abbrev pub allOf : List ℕ → List ℕ → ℕ → ℕ → Cells
@@ -60,3 +70,12 @@ pub record Gathers (s : Settings) (own level : ℕ) (front back : List ℕ) (lo 
   pub counted : hits ≡ rangeCount s level lo hi
   pub fit : fits s (allOf front back lo hi) level ≡ true
   pub room : length out ≡ 504
+
+-- a row alone, all of whose cells pass at the level: the range lies after every cell
+abbrev pub Alone : Settings → ℕ → List ℕ → Type 0
+Alone s level xs = Present s level xs [] (s .n + 1) (s .n)
+
+-- what is kept of the first cells of a row, in place
+pub record Thins (s : Settings) (here many : ℕ) (before : List ℕ) (level count : ℕ) (after : List ℕ) : Type 0 where
+  pub lowest-level : level ≡ lowest s (listed (take many before)) here
+  pub stored : Stored before 0 (sample s (listed (take many before)) level) count after

@@ -13,6 +13,7 @@ use Rattle.rule.specs.Rule.{Good, isGood, passes, top, all}
 use Rattle.rule.specs.Samples.{sample, lowest}
 use Rattle.rows.specs.Walked.{risesFrom}
 use Rattle.sketch.specs.declared.Sketch.{Sketch}
+use Rattle.sketch.specs.declared.settle.Kept.{Kept}
 
 -- a sketch from its parts, whatever they are
 abbrev pub held : Settings → ℕ → ℕ → List ℕ → Sketch
@@ -25,6 +26,10 @@ sketchAt s level xs = held s level (length xs) (pad 504 xs)
 -- the kept cells
 unfoldable pub cellsOf : Sketch → List ℕ
 cellsOf k = take (k .count) (k .cells)
+
+-- the level, and how many they are
+abbrev pub keptOf : Sketch → Kept
+keptOf k = record { level = k .level; count = k .count }
 
 -- what a sketch is (RULES: Sketch)
 pub record Sound (k : Sketch) : Type 0 where

@@ -3,9 +3,9 @@ ghost use mathlib.Core.Path.{_≡_};
 ghost use mathlib.Core.Bool.{true};
 ghost use Prim.Native.Nat.{_≤_};
 ghost use lib.ListN.{length};
-ghost use Rattle.sketch.specs.Sketches.{held, isSketch, Sound, opened, add, merge};
-ghost use Rattle.sketch.specs.Calls.{Hands, doneWith, refusedWith, noSketch, openOn, addWhen, addOn, mergeOn};
-ghost use Rattle.sketch.specs.Trying.{headFor, giving};
+ghost use Rattle.find.specs.Finding.{inRange};
+ghost use Rattle.sketch.specs.Sketches.{held, isSketch, keptOf, Sound, opened, add, merge};
+ghost use Rattle.sketch.specs.Calls.{Hands, doneWith, refusedWith, noSketch, openOn, addOn, mergeOn};
 ghost use Rattle.sketch.specs.Estimates.{standsAt, Estimates};
 use rule::Settings;
 use rule::answers::Answer;
@@ -13,15 +13,15 @@ use rule::refusals::BAD_SETTINGS;
 use rule::refusals::NOT_ONE;
 
 pub mod estimates;
-pub mod parts;
+mod levels;
+pub mod order;
 pub mod settle;
 
 use estimates::Estimate;
-use parts::Head;
-use parts::Tried;
+use settle::Kept;
 
-// The places of a sketch's row. The contracts write the number out.
-pub const PLACES: usize = 504;
+// The places of a sketch's row.
+pub const PLACES: usize = rule::GREATEST_CAPACITY as usize;
 
 // A level, and the cells kept at it: the first `count` places, rising, with zeros after them.
 pub struct Sketch {
@@ -128,62 +128,81 @@ impl Sketch {
         })
     }
 
-    // All but the row, and whether it is known to be a sketch.
-    fn head(self, known: bool) -> Head
-        ensures { λ r. ⌜ r ≡ headFor known self ⌝ }
+    fn kept(self) -> Kept
+        ensures { λ r. ⌜ r ≡ keptOf self ⌝ }
     {
-        let settings = self.settings;
-        Head {
-            known,
-            settings,
+        Kept {
             level: self.level,
             count: self.count,
         }
     }
 
-    // What is kept now, with its row; or the sketch as it was, with a refusal.
-    fn given(self, tried: Tried, cells: [u32; PLACES]) -> Changed
-        ensures { λ r. ⌜ r ≡ giving self tried cells ⌝ }
+    // What adding makes of a sketch where nothing refuses it: a run of adds tests the sketch once.
+    pub fn added(self, lo: u32, hi: u32) -> Sketch
+        requires { ⌜ Sound self × (inRange (self .settings) lo hi ≡ true) ⌝ }
+        ensures { λ r. ⌜ r ≡ add self lo hi ⌝ }
     {
         let settings = self.settings;
-        match tried {
-            Tried::Kept { level, count } => {
-                let next = Sketch {
-                    settings,
-                    level,
-                    count,
-                    cells,
-                };
-                done(next)
-            }
-            Tried::Refused(number) => refuse(number, self),
+        let mut cells = [0u32; PLACES];
+        let kept = settle::add_to(&mut cells, settings, self.kept(), &self.cells, lo, hi);
+        Sketch {
+            settings,
+            level: kept.level,
+            count: kept.count,
+            cells,
         }
-    }
-
-    // Adding, where it is known whether this is a sketch: a run of adds pays for the test once.
-    pub fn add_known(self, known: bool, lo: u32, hi: u32) -> Changed
-        requires { ⌜ (known ≡ true → Sound self) ⌝ }
-        ensures { λ r. ⌜ Hands (addWhen known (self .settings) lo hi) (add self lo hi) self r ⌝ }
-    {
-        let mut out = [0u32; PLACES];
-        let added = parts::try_add(&mut out, self.head(known), &self.cells, lo, hi);
-        self.given(added, out)
     }
 
     pub fn add(self, lo: u32, hi: u32) -> Changed
         ensures { λ r. ⌜ Hands (addOn self lo hi) (add self lo hi) self r ⌝ }
     {
-        self.add_known(self.good(), lo, hi)
+        let answer = order::add_answer(self.good(), self.settings, lo, hi);
+        match answer {
+            Answer::Done => {
+                let next = self.added(lo, hi);
+                done(next)
+            }
+            Answer::Refused(number) => refuse(number, self),
+        }
+    }
+
+    // What merging makes of two sketches with the same settings.
+    fn merged(self, other: Sketch) -> Sketch
+        requires { ⌜ Sound self × Sound other × (self .settings ≡ other .settings) ⌝ }
+        ensures { λ r. ⌜ r ≡ merge self other ⌝ }
+    {
+        let settings = self.settings;
+        let its = other.kept();
+        let mut both = [0u32; 2 * PLACES];
+        let kept = settle::merge_to(
+            &mut both,
+            settings,
+            self.kept(),
+            &self.cells,
+            its,
+            &other.cells,
+        );
+        let mut cells = [0u32; PLACES];
+        rows::stores::store(&mut cells, 0, &both[..PLACES]);
+        Sketch {
+            settings,
+            level: kept.level,
+            count: kept.count,
+            cells,
+        }
     }
 
     pub fn merge(self, other: Sketch) -> Changed
         ensures { λ r. ⌜ Hands (mergeOn self other) (merge self other) self r ⌝ }
     {
-        let mine = self.head(self.good());
-        let its = other.head(other.good());
-        let mut out = [0u32; PLACES];
-        let merged = parts::try_merge(&mut out, mine, &self.cells, its, &other.cells);
-        self.given(merged, out)
+        let answer = order::merge_answer(self.good(), self.settings, other.good(), other.settings);
+        match answer {
+            Answer::Done => {
+                let both = self.merged(other);
+                done(both)
+            }
+            Answer::Refused(refusal) => refuse(refusal, self),
+        }
     }
 
     pub fn estimate(self) -> Estimate

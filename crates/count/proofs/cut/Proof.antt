@@ -4,7 +4,7 @@ use Prim.Native.Nat.{ℕ, _/_}
 use native.Mathlib.Nat.{div-le-self, mod-lt}
 use native.Mathlib.Omega.{arith}
 use borrow.Author.Tests.{leb-true, leb-false}
-use Rattle.count.proofs.Laws.{halves}
+use Rattle.count.proofs.Folds.{halves}
 use Rattle.count.proofs.Steps.{wide}
 use borrow.Author.Needs.{needs}
 use Rattle.count.proofs.cut.Statement.{statement}

@@ -1,72 +1,74 @@
 -- `evening::answer_add` meets its contract. Assumes nothing.
-use mathlib.Core.Path.{_≡_, refl, sym, ap, _∙_}
-use lib.ListN.{length}
-use Rattle.sketch.specs.declared.parts.Tried.{Tried}
-use Rattle.sketch.specs.Trying.{ofTried, giving}
-use Rattle.sketch.proofs.Handing.{known-head, tries-add}
+use mathlib.Core.Path.{sym, ap, _∙_}
+use Rattle.rule.specs.Refusals.{ofAnswer}
+use Rattle.sketch.proofs.Handing.{add-granted}
+use Rattle.evening.specs.Replies.{kept}
 use Rattle.evening.proofs.Replying.{tells-as, add-refused, add-kept}
 use borrow.Author.Needs.{needs}
 use Rattle.evening.proofs.answer_add.Statement.{statement}
 use Rattle.evening.proofs.answer_add.Tie as tie
 
-slice-aggregate-try-add : tie.Need-slice-aggregate-try-add
-slice-aggregate-try-add c = search needs
+add-answer-requires : tie.Need-add-answer-requires
+add-answer-requires c κs = search needs
 
-try-add-requires : tie.Need-try-add-requires
-try-add-requires c κs =
-    let start = c .before .before .before .before .before .before .before in
-    let k = start .args .pot .sketch in
-    let e : length (k .cells) ≡ 504 = search needs in
-    (known-head k refl e (start .pre .0 .sound), refl)
-
-enum-known-tried : tie.Need-enum-known-tried
-enum-known-tried c = search needs
-
-keep-requires : tie.Need-keep-requires
-keep-requires c κs = search needs
-
-enum-known-tried-2 : tie.Need-enum-known-tried-2
-enum-known-tried-2 c = search needs
+enum-known-answer : tie.Need-enum-known-answer
+enum-known-answer c = search needs
 
 refuse-requires : tie.Need-refuse-requires
 refuse-requires c κs = search needs
+
+enum-told : tie.Need-enum-told
+enum-told c = search needs
+
+added-requires : tie.Need-added-requires
+added-requires c κs =
+    let w = c .before .before in
+    let start = w .before .before in
+    let a = start .args in
+    let done = sym (ap ofAnswer (c .enum-told .given .1)) ∙ w .add-answer .ensures in
+    let g = add-granted (a .pot .opened) (a .pot .sketch .settings) (a .lo) (a .hi) done in
+    (start .pre .0 .sound (g .0), g .1)
+
+keep-requires : tie.Need-keep-requires
+keep-requires c κs = search needs
 
 same-length : tie.Need-same-length
 same-length c = search needs
 
 returns : tie.Need-returns
 returns c =
-    let start = c .before .before .before .before .before .before .before .before .before .before .before .before .before .before .before .before in
+    let k = c .before .before in
+    let arm = k .before .before .before in
+    let w = arm .before .before in
+    let start = w .before .before in
     let a = start .args in
-    let tried = c .before .before .before .before .before .before .before .before .try-add in
-    let kept = c .before .before .before .before .before .tried .given .1 in
-    let added = tries-add (a .pot .sketch) (a .pot .opened) refl refl (a .lo) (a .hi) (tried .ensures) in
-    tells-as
-    (add-kept (a .pot) (a .lo) (a .hi) (start .pre .0) _ (sym (tried .ensures .answer) ∙ ap ofTried kept)
-    (ap (λ (t : Tried). giving (a .pot .sketch) t (tried .last .0) .sketch) (sym kept) ∙ added .sketch))
-    (c .before .before .keep .ensures)
+    let refusal = sym (w .add-answer .ensures) ∙ ap ofAnswer (arm .answer .given .1) in
+    tells-as (add-refused (a .pot) (a .lo) (a .hi) (start .pre .0) _ refusal) (k .refuse .ensures)
 
 same-length-2 : tie.Need-same-length-2
 same-length-2 c = search needs
 
 returns-2 : tie.Need-returns-2
 returns-2 c =
-    let start = c .before .before .before .before .before .before .before .before .before .before .before .before .before .before .before .before in
+    let k = c .before .before in
+    let sum = k .before .before in
+    let arm = sum .before in
+    let w = arm .before .before in
+    let start = w .before .before in
     let a = start .args in
-    let refusal = sym (c .before .before .before .before .before .before .before .before .try-add .ensures .answer)
-    ∙ ap ofTried (c .before .before .before .before .before .tried2 .given .1) in
-    tells-as (add-refused (a .pot) (a .lo) (a .hi) (start .pre .0) _ refusal) (c .before .before .refuse .ensures)
+    let done = sym (w .add-answer .ensures) ∙ ap ofAnswer (arm .enum-told .given .1) in
+    tells-as (ap kept (sum .added .ensures) ∙ add-kept (a .pot) (a .lo) (a .hi) (start .pre .0) done) (k .keep .ensures)
 
 pub answer-add-spec : {M : Type 1} → statement M
 answer-add-spec =
     tie.close
     (tie.spec
-    slice-aggregate-try-add
-    try-add-requires
-    enum-known-tried
-    keep-requires
-    enum-known-tried-2
+    add-answer-requires
+    enum-known-answer
     refuse-requires
+    enum-told
+    added-requires
+    keep-requires
     same-length
     returns
     same-length-2

@@ -1,61 +1,120 @@
 -- `host::add_in` meets its contract. Assumes nothing.
-use mathlib.Core.Path.{refl}
+use mathlib.Core.Path.{_≡_, refl, sym, ap, _∙_}
+use mathlib.Core.List.{[]}
 use denote.Ref.{now}
-use Rattle.host.proofs.Crossings.{known-in}
-use Rattle.host.proofs.Outcomes.{adds-in}
+use Rattle.rule.specs.Refusals.{answered, ofAnswer}
+use Rattle.sketch.specs.Calls.{addWhen}
+use Rattle.sketch.proofs.Handing.{add-granted}
+use Rattle.host.specs.Crossing.{sketchRow}
+use Rattle.host.proofs.Crossings.{row-kept-in}
+use Rattle.host.proofs.Outcomes.{gives-refused, gives-done, adds-told, adds-kept}
 use borrow.Author.Needs.{needs}
 use Rattle.host.proofs.add_in.Statement.{statement}
 use Rattle.host.proofs.add_in.Tie as tie
 
-head-in-requires : tie.Need-head-in-requires
-head-in-requires c κs = search needs
+-- where the settings and the test are known
+abbrev tested : tie.After-enum-told → tie.After-is-sketch
+tested c = c .before .before .before
 
-slice-aggregate-try-add : tie.Need-slice-aggregate-try-add
-slice-aggregate-try-add c = search needs
+abbrev known : tie.After-is-sketch → tie.After-settings-in
+known c = c .before .before
 
-sub-try-add : tie.Need-sub-try-add
-sub-try-add c = search needs
+abbrev start : tie.After-settings-in → tie.Start
+start c = c .before .before .before
 
-part-try-add-start : tie.Need-part-try-add-start
-part-try-add-start c = search needs
+-- nothing refuses it
+done : (c : tie.After-enum-told) → let k = known (tested c) in
+    answered [] ≡ addWhen (tested c .is-sketch .result) (k .settings-in .result) (start k .args .lo) (start k .args .hi)
+done c = sym (ap ofAnswer (c .enum-told .given .1)) ∙ c .before .before .add-answer .ensures
 
-part-try-add-end : tie.Need-part-try-add-end
-part-try-add-end c = search needs
+settings-in-requires : tie.Need-settings-in-requires
+settings-in-requires c κs = search needs
 
-try-add-requires : tie.Need-try-add-requires
-try-add-requires c κs = (
-  known-in (now (c .before .before .before .before .before .before .before .args .row)) _
-      (c .before .before .before .before .before .before .before .pre) (c .before .before .before .before .head-in .ensures),
-  refl,
-)
+is-sketch-requires : tie.Need-is-sketch-requires
+is-sketch-requires c κs = search needs
 
-slice-aggregate-put-tried : tie.Need-slice-aggregate-put-tried
-slice-aggregate-put-tried c = search needs
+add-answer-requires : tie.Need-add-answer-requires
+add-answer-requires c κs = search needs
 
-put-tried-requires : tie.Need-put-tried-requires
-put-tried-requires c κs = search needs
+enum-known-answer : tie.Need-enum-known-answer
+enum-known-answer c = search needs
+
+enum-told : tie.Need-enum-told
+enum-told c = search needs
+
+slice-aggregate-add-to : tie.Need-slice-aggregate-add-to
+slice-aggregate-add-to c = search needs
+
+kept-in-requires : tie.Need-kept-in-requires
+kept-in-requires c κs = search needs
+
+sub-add-to : tie.Need-sub-add-to
+sub-add-to c = search needs
+
+part-add-to-start : tie.Need-part-add-to-start
+part-add-to-start c = search needs
+
+part-add-to-end : tie.Need-part-add-to-end
+part-add-to-end c = search needs
+
+add-to-requires : tie.Need-add-to-requires
+add-to-requires c κs =
+    let told = c .before .before .before .before .before in
+    let k = known (tested told) in
+    let b = start k in
+    let g = add-granted _ (k .settings-in .result) (b .args .lo) (b .args .hi) (done told) in
+    let w = row-kept-in (now (b .args .row)) _ (b .pre) (k .settings-in .ensures) (sym (tested told .is-sketch .ensures) ∙ g .0) in
+    (rw (c .before .before .kept-in .ensures) w, g .1, refl)
+
+slice-aggregate-put-sketch : tie.Need-slice-aggregate-put-sketch
+slice-aggregate-put-sketch c = search needs
+
+put-sketch-requires : tie.Need-put-sketch-requires
+put-sketch-requires c κs = search needs
 
 same-length : tie.Need-same-length
 same-length c = search needs
 
 returns : tie.Need-returns
 returns c =
-    let start = c .before .before .before .before .before .before .before .before .before .before .before .before .before .before in
-    adds-in (now (start .args .row)) _ (start .pre)
-    (c .before .before .before .before .before .before .before .before .before .before .before .head-in .ensures)
-    (c .before .before .put-tried .ensures) _ _ (c .before .before .before .before .before .before .try-add .ensures)
+    let t = c .before .before .before .before in
+    let k = known t in
+    let a = start k .args in
+    let said = sym (ap ofAnswer (c .before .answer .given .1)) ∙ c .before .before .before .add-answer .ensures in
+    gives-refused _ (now (a .row)) (start k .pre) (adds-told (now (a .row)) (k .settings-in .ensures) (t .is-sketch .ensures) (a .lo) (a .hi) said)
+
+same-length-2 : tie.Need-same-length-2
+same-length-2 c = search needs
+
+returns-2 : tie.Need-returns-2
+returns-2 c =
+    let told = c .before .before .before .before .before .before .before .before .before .before .before .before in
+    let t = tested told in
+    let s = known t .settings-in .ensures in
+    let a = start (known t) .args in
+    let row = now (a .row) in
+    let heads = c .before .before .before .before .before .before .before .before .before in
+    let kept = adds-kept row s (heads .kept-in .ensures) (a .lo) (a .hi) (c .before .before .before .before .before .before .add-to .ensures) in
+    gives-done _ _ (adds-told row s (t .is-sketch .ensures) (a .lo) (a .hi) (done told)) (c .before .before .put-sketch .ensures ∙ ap sketchRow kept)
 
 pub add-in-spec : {M : Type 1} → statement M
 add-in-spec =
     tie.close
     (tie.spec
-    head-in-requires
-    slice-aggregate-try-add
-    sub-try-add
-    part-try-add-start
-    part-try-add-end
-    try-add-requires
-    slice-aggregate-put-tried
-    put-tried-requires
+    settings-in-requires
+    is-sketch-requires
+    add-answer-requires
+    enum-known-answer
+    enum-told
+    slice-aggregate-add-to
+    kept-in-requires
+    sub-add-to
+    part-add-to-start
+    part-add-to-end
+    add-to-requires
+    slice-aggregate-put-sketch
+    put-sketch-requires
     same-length
-    returns)
+    returns
+    same-length-2
+    returns-2)

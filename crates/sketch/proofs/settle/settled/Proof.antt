@@ -26,9 +26,9 @@ fitting c = settle-now (c .before .before .before .before .before .before .pre .
 over : (c : tie.Else1) → whole (c .before) ≡ false
 over c = settle-not (c .before .before .before .before .before .before .pre .0) (c .before .count-in .ensures) (c .if1 .left)
 
-above : (c : tie.Else1) → c .before .before .before .before .before .before .args .level + 1 ≤ top
+higher : (c : tie.Else1) → c .before .before .before .before .before .before .args .level + 1 ≤ top
     (c .before .before .before .before .before .before .args .settings)
-above c = settle-room (c .before .before .before .before .before .before .pre .0) (over c)
+higher c = settle-room (c .before .before .before .before .before .before .pre .0) (over c)
 
 cast-capacity : tie.Need-cast-capacity
 cast-capacity c = search needs
@@ -67,28 +67,8 @@ returns c =
     keeps-stored _ _ (c .before .before .gathered .ensures) _ (sym (lowest-now _ _ _ (fitting (c .before .before .before .before))))
     (c .before .before .before .before .before .before .before .before .before .before .pre .1)
 
-add-guessed : tie.Need-add-guessed
-add-guessed c = omega (arith, above c, top-small _ (c .before .before .before .before .before .before .pre .0 .around .good))
-
-top-requires : tie.Need-top-requires
-top-requires c κs = search needs
-
-guessed-requires : tie.Need-guessed-requires
-guessed-requires c κs = (
-  omega (arith, above (c .before), c .top .ensures),
-  omega (arith, top-small _ (c .before .before .before .before .before .before .before .pre .0 .around .good), c .top .ensures),
-)
-
-add-raised : tie.Need-add-raised
-add-raised c = omega (arith, above (c .before .before), top-small _ (c .before .before .before .before .before .before .before .before .pre .0 .around .good))
-
-raised-requires : tie.Need-raised-requires
-raised-requires c κs = (
-  c .before .before .before .before .before .before .before .before .pre .0 .around,
-  omega
-      (arith, above (c .before .before), c .guessed .ensures, c .before .top .ensures),
-  omega (arith, c .guessed .ensures, c .before .top .ensures),
-)
+above-requires : tie.Need-above-requires
+above-requires c κs = (c .before .before .before .before .before .before .pre .0 .around, higher c)
 
 count-in-requires-2 : tie.Need-count-in-requires-2
 count-in-requires-2 c κs = search needs
@@ -98,34 +78,30 @@ cast-left c = search needs
 
 gathered-requires-2 : tie.Need-gathered-requires-2
 gathered-requires-2 c κs =
-    let start = c .before .before .before .before .before .before .before .before .before .before .before in
+    let start = c .before .before .before .before .before .before .before .before .before in
     record {
       present = start .pre .0;
       counted = c .before .count-in2 .ensures;
-      fit = settle-fits (start .pre .0)
-          (over (c .before .before .before .before .before)) (c .before .before .raised .ensures);
+      fit = settle-fits (start .pre .0) (over (c .before .before .before)) (c .before .before .above .ensures);
       room = zeros-sized _ (start .pre .1);
     }
 
 cast-count-2 : tie.Need-cast-count-2
 cast-count-2 c =
-    let else = c .before .before .before .before .before .before .before .before in
+    let else = c .before .before .before .before .before .before in
     let w = else .before .before .before .before .before .before .pre .0 in
-    omega (
-      arith,
-      stored-few _ _ (c .before .before .gathered2 .ensures) (w .around .good)
-          (settle-fits w (over else) (c .before .before .before .before .before .raised .ensures)),
-    )
+    let fit = settle-fits w (over else) (c .before .before .before .before .before .above .ensures) in
+    omega (arith, stored-few _ _ (c .before .before .gathered2 .ensures) (w .around .good) fit)
 
 same-length-2 : tie.Need-same-length-2
 same-length-2 c = search needs
 
 returns-2 : tie.Need-returns-2
 returns-2 c =
-    let start = c .before .before .before .before .before .before .before .before .before .before .before .before .before .before in
-    keeps-stored _ _ (c .before .before .gathered2 .ensures) _
-    (settle-next (start .pre .0) (over (c .before .before .before .before .before .before .before .before))
-    (c .before .before .before .before .before .raised .ensures)) (start .pre .1)
+    let else = c .before .before .before .before .before .before in
+    let start = else .before .before .before .before .before .before in
+    let lowest = settle-next (start .pre .0) (over else) (c .before .before .before .before .before .above .ensures) in
+    keeps-stored _ _ (c .before .before .gathered2 .ensures) _ lowest (start .pre .1)
 
 pub settled-spec : {M : Type 1} → statement M
 settled-spec =
@@ -140,11 +116,7 @@ settled-spec =
     cast-count
     same-length
     returns
-    add-guessed
-    top-requires
-    guessed-requires
-    add-raised
-    raised-requires
+    above-requires
     count-in-requires-2
     cast-left
     gathered-requires-2
