@@ -26,7 +26,7 @@ use Rattle.line.specs.declared.commands.Command.the-variants as command
 use Rattle.line.specs.Lines.{commandOf}
 use Rattle.line.specs.Texts.{textKept}
 use Rattle.evening.specs.declared.Pot.{Pot}
-use Rattle.evening.specs.Replies.{Reply, estimateText, countText, cellText, whenOpen, told, openReply, addReply, replyTo, replyOf}
+use Rattle.evening.specs.Replies.{Reply, estimateText, countText, cellText, whenOpen, paperText, openReply, addReply, replyTo, replyOf}
 
 abbrev pub changed : Pot → Command → Option Sketch
 -- S with good settings
@@ -73,7 +73,7 @@ add-leaves pot lo hi =
     (tested (pot .opened))
 
 -- E, C and N: whatever the paper, no answer is `K level cells`
-told-other : (paper : Paper) (text : List ℕ → List ℕ) → ((values : List ℕ) → beginsK (text values) ≡ false) → beginsK (told paper text) ≡ false
+told-other : (paper : Paper) (text : List ℕ → List ℕ) → ((values : List ℕ) → beginsK (text values) ≡ false) → beginsK (paperText paper text) ≡ false
 told-other (answered values) text other = other values
 told-other (refused number place) text other = refl
 

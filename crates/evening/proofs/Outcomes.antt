@@ -34,7 +34,7 @@ use Rattle.evening.specs.declared.Pot.{Pot}
 use Rattle.evening.specs.declared.Told.{Told}
 use Rattle.evening.specs.declared.Evening.{Evening}
 use Rattle.evening.specs.declared.Fed.{Fed}
-use Rattle.evening.specs.Replies.{Reply, Tells, Sits, estimateText, countText, cellText, whenOpen, told, keptIf, replyTo, replyOf}
+use Rattle.evening.specs.Replies.{Reply, Tells, Sits, estimateText, countText, cellText, whenOpen, paperText, keptIf, replyTo, replyOf}
 use Rattle.evening.specs.Runs.{Run, fed, Feeds, rest}
 use Rattle.evening.proofs.Staying.{opened-sound, added-sound}
 
@@ -61,7 +61,7 @@ feeds-tight {s} {input} {row} {out} {out′} {r} {r′} a b =
 pub rest-tight : (s : Evening) {row out out′ : List ℕ} {n n′ : ℕ} → Stored row 0 (rest s) n out → Stored row 0 (rest s) n′ out′ → (out ≡ out′) × (n ≡ n′)
 rest-tight s a b = stored-same a b
 
-told-line : (paper : Paper) (text : List ℕ → List ℕ) → ((values : List ℕ) → OneLine (text values)) → OneLine (told paper text)
+told-line : (paper : Paper) (text : List ℕ → List ℕ) → ((values : List ℕ) → OneLine (text values)) → OneLine (paperText paper text)
 told-line (answered values) text f = f values
 told-line (refused number place) text f = refusal-line number
 

@@ -27,7 +27,7 @@ use Rattle.line.specs.Lines.{commandOf}
 use Rattle.line.specs.Texts.{textExact, textAbout, textRefusal}
 use Rattle.evening.specs.declared.Pot.{Pot}
 use Rattle.evening.specs.declared.Told.{Told}
-use Rattle.evening.specs.Replies.{Reply, Tells, Sits, refusal, kept, says, estimateText, whenOpen, told, keptIf, openReply, addReply, replyTo, replyOf}
+use Rattle.evening.specs.Replies.{Reply, Tells, Sits, refusal, kept, says, estimateText, whenOpen, paperText, keptIf, openReply, addReply, replyTo, replyOf}
 
 pub tells-as : {row : List ℕ} {at : ℕ} {a b : Reply} {out : List ℕ} {r : Told} → a ≡ b → Tells row at a out r → Tells row at b out r
 tells-as {row} {at} {a} {b} {out} {r} e t = subst (λ (x : Reply). Tells row at x out r) e t
@@ -38,13 +38,13 @@ says-tells pot s = record { stored = s; pot = refl }
 
 -- what a call answers, told where a sketch is open
 module _ (isOpen : Bool) (paper : Paper) (text : List ℕ → List ℕ) where
-  pub told-unopened : isOpen ≡ false → textRefusal notOne ≡ told (whenOpen isOpen paper) text
+  pub told-unopened : isOpen ≡ false → textRefusal notOne ≡ paperText (whenOpen isOpen paper) text
   told-unopened o = rw o
 
-  pub told-refused : isOpen ≡ true → (number place : ℕ) → paper ≡ refused number place → textRefusal number ≡ told (whenOpen isOpen paper) text
+  pub told-refused : isOpen ≡ true → (number place : ℕ) → paper ≡ refused number place → textRefusal number ≡ paperText (whenOpen isOpen paper) text
   told-refused o number place e = rw (o, e)
 
-  pub told-answered : isOpen ≡ true → (values : List ℕ) → paper ≡ answered values → text values ≡ told (whenOpen isOpen paper) text
+  pub told-answered : isOpen ≡ true → (values : List ℕ) → paper ≡ answered values → text values ≡ paperText (whenOpen isOpen paper) text
   told-answered o values e = rw (o, e)
 
 module _ (level count : ℕ) where

@@ -67,9 +67,9 @@ abbrev pub whenOpen : Bool → Paper → Paper
 whenOpen isOpen paper = unless isOpen notOne paper
 
 -- a paper's text: that of the values, or `R number`
-abbrev pub told : Paper → (List ℕ → List ℕ) → List ℕ
-told (answered values) text = text values
-told (refused number place) text = textRefusal number
+abbrev pub paperText : Paper → (List ℕ → List ℕ) → List ℕ
+paperText (answered values) text = text values
+paperText (refused number place) text = textRefusal number
 
 -- a paper's reply: the sketch is kept, or the refusal
 abbrev pub keptIf : Pot → Paper → Sketch → Reply
@@ -86,20 +86,20 @@ addReply pot lo hi = keptIf pot (whenOpen (pot .opened) (addOn (pot .sketch) lo 
 
 -- E estimates; what it tells, and its reply
 abbrev pub estimateTold : Bool → ℕ → ℕ → List ℕ
-estimateTold isOpen level count = told (whenOpen isOpen (answered [])) (λ values. estimateText level count)
+estimateTold isOpen level count = paperText (whenOpen isOpen (answered [])) (λ values. estimateText level count)
 
 abbrev pub estimateReply : Pot → Reply
 estimateReply pot = says pot (estimateTold (pot .opened) (pot .sketch .level) (pot .sketch .count))
 
 -- C counts and N finds, both with the open settings; what they tell, and their replies
 abbrev pub countTold : Bool → Settings → ℕ → ℕ → ℕ → List ℕ
-countTold isOpen settings level lo hi = told (whenOpen isOpen (countOn settings level lo hi)) countText
+countTold isOpen settings level lo hi = paperText (whenOpen isOpen (countOn settings level lo hi)) countText
 
 abbrev pub countReply : Pot → ℕ → ℕ → ℕ → Reply
 countReply pot level lo hi = says pot (countTold (pot .opened) (pot .sketch .settings) level lo hi)
 
 abbrev pub nextTold : Bool → Settings → ℕ → ℕ → List ℕ
-nextTold isOpen settings level from = told (whenOpen isOpen (nextOn settings level from)) cellText
+nextTold isOpen settings level from = paperText (whenOpen isOpen (nextOn settings level from)) cellText
 
 abbrev pub nextReply : Pot → ℕ → ℕ → Reply
 nextReply pot level from = says pot (nextTold (pot .opened) (pot .sketch .settings) level from)
