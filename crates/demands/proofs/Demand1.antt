@@ -1,10 +1,12 @@
 -- Demand 1: every call answers every input; a refusal's number implies its cause, and a cause with no earlier one implies the refusal;
 -- what was given comes back unchanged, opening and reading hand back all zeros, lent memory stays as it was.
---     count-lawful, next-lawful, start-lawful, step-lawful, open-lawful, add-lawful, merge-lawful, estimate-lawful, write-lawful, read-lawful
+--     count-lawful, next-lawful, start-lawful, step-lawful, open-lawful, add-lawful, row-lawful, merge-lawful, estimate-lawful,
+--     write-lawful, read-lawful
 --     numbers         the numbers of the refusals
 --     before-first, first-is-wrong    7 names the first block whose check is wrong
+--     row-before, row-is-bad    a row's 2 names the first stretch that isn't in range
 --     sketch-zeros, walker-zeros      the value of all zeros
---     hands-back, start-back, step-back, read-zeros, room-back    what comes back with a refusal
+--     hands-back, hands-row-back, start-back, step-back, read-zeros, room-back    what comes back with a refusal
 -- Assumes nothing.
 use Prim.Native.Nat.{ℕ, _<_}
 use mathlib.Core.Path.{_≡_, refl, sym, ap, _∙_}
@@ -13,14 +15,14 @@ use mathlib.Core.Logic.{inl, inr, ⊎-elim}
 use mathlib.Core.List.{List, [], _∷_}
 use native.Mathlib.Omega.{arith}
 use lib.Dec.{ltb}
-use lib.ListN.{length, replicate}
-use borrow.Author.Tests.{not-false, not-true}
+use lib.ListN.{length, getD, replicate}
+use borrow.Author.Tests.{leb-false, not-false, not-true}
 use Rattle.lists.proofs.Tests.{tested}
 use Rattle.lists.proofs.Searches.{least-least, least-found}
 use Rattle.rule.specs.declared.Settings.{Settings}
 use Rattle.rule.specs.declared.answers.Written.{Written}
-use Rattle.rule.specs.Refusals.{Outcome, Paper, answered, refused, unless, badSettings, badRange, badLevel, notOne, unequal, noRoom, badCheck, badImage}
-use Rattle.rule.specs.Refusals.{badLine}
+use Rattle.rule.specs.Refusals.{Outcome, Paper, answered, refused, unlessAt, badSettings, badRange, badLevel, notOne, unequal, noRoom, badCheck, badImage}
+use Rattle.rule.specs.Refusals.{badLine, ofRow}
 use Rattle.rule.specs.Rule.{noSettings}
 use Rattle.rule.specs.Samples.{rangeCount, nextHit}
 use Rattle.block.specs.Sums.{blockGood}
@@ -34,20 +36,25 @@ use Rattle.sketch.specs.declared.Changed.{Changed}
 use Rattle.sketch.specs.Sketches.{sketchAt}
 use Rattle.sketch.specs.Calls.{openOn, addOn, mergeOn, noSketch, Hands}
 use Rattle.sketch.specs.Estimates.{weightOf, estimateOn}
+use Rattle.row.specs.declared.Stretch.{Stretch}
+use Rattle.row.specs.declared.RowChanged.{RowChanged}
+use Rattle.row.specs.Stretches.{within, firstBad, addAll, rowOn, HandsRow}
+use Rattle.row.proofs.Places.{none, all-by-place, bad-there, good-before}
 use Rattle.image.specs.declared.Loaded.{Loaded}
 use Rattle.image.specs.Images.{imageOf}
 use Rattle.image.specs.Shapes.{blockAt, blocksIn, firstWrong}
 use Rattle.image.specs.Calls.{writeOn, readOn, readMarked, Writes, Reads}
-use Rattle.demands.specs.Causes.{Rule, Lawful, countRules, nextRules, stepRules, openRules, addRules, mergeRules, estimateRules, writeRules, readRules}
+use Rattle.demands.specs.Causes.{Rule, Lawful, countRules, nextRules, stepRules, openRules, addRules, rowRules, mergeRules, estimateRules, writeRules}
+use Rattle.demands.specs.Causes.{readRules}
 
 -- the first broken rule refuses
 judged : {Told : Type 0} → List Rule → Told → Outcome Told
 judged [] told = answered told
 judged (r ∷ rs) told = cond (r .holds) (judged rs told) (refused (r .number) (r .place))
 
-unless-cond : {Told : Type 0} (t : Bool) (number : ℕ) (x : Outcome Told) → unless t number x ≡ cond t x (refused number 0)
-unless-cond true number x = refl
-unless-cond false number x = refl
+unless-cond : {Told : Type 0} (t : Bool) (number place : ℕ) (x : Outcome Told) → unlessAt t number place x ≡ cond t x (refused number place)
+unless-cond true number place x = refl
+unless-cond false number place x = refl
 
 module _ {Told : Type 0} where
   same-outcome : (x y : Outcome Told) (rules : List Rule) (told : Told) → x ≡ y → Lawful y rules told → Lawful x rules told
@@ -131,6 +138,11 @@ pub add-lawful : (k : Sketch) (lo hi : ℕ) → Lawful (addOn k lo hi) (addRules
 unfolding addOn judged
 add-lawful k lo hi = by-rules (addOn k lo hi) (addRules k lo hi) ([]) (simp unless-cond)
 
+-- a row: 2 names its place
+pub row-lawful : (k : Sketch) (ts : List Stretch) → Lawful (rowOn k ts) (rowRules k ts) ([])
+unfolding rowOn judged
+row-lawful k ts = by-rules (rowOn k ts) (rowRules k ts) ([]) (simp unless-cond)
+
 pub merge-lawful : (j k : Sketch) → Lawful (mergeOn j k) (mergeRules j k) ([])
 unfolding mergeOn judged
 merge-lawful j k = by-rules (mergeOn j k) (mergeRules j k) ([]) (simp unless-cond)
@@ -155,6 +167,10 @@ read-lawful s = by-rules (readOn s) (readRules s) [] (simp (unless-cond, not-con
 -- what comes back with a refusal
 pub hands-back : (paper : Paper) (next old : Sketch) (r : Changed) (number place : ℕ) → Hands paper next old r → paper ≡ refused number place → r .sketch ≡ old
 hands-back paper next old r number place h e = let p = h .sketch in cc
+
+pub hands-row-back : (paper : Paper) (next old : Sketch) (r : RowChanged) (number place : ℕ) → HandsRow paper next old r → paper ≡ refused number place
+    → r .sketch ≡ old
+hands-row-back paper next old r number place h e = let p = h .sketch in cc
 
 pub start-back : (s : Settings) (level lo hi : ℕ) (r : Started) (number place : ℕ) → Starts s level lo hi r → startOn s level lo hi ≡ refused number place
     → r .walker ≡ noWalker
@@ -191,6 +207,24 @@ unfolding firstWrong
 first-is-wrong s h =
     let q : ℕ → Bool = λ i. not (blockGood (blockAt i s)) in
     not-true (blockGood (blockAt (firstWrong s) s)) (least-found q (blocksIn s) 0 (omega arith))
+
+-- a row's 2 names the first bad stretch
+module _ (k : Sketch) (ts : List Stretch) (r : RowChanged) (place : ℕ) (h : HandsRow (rowOn k ts) (addAll k ts) k r)
+    (e : ofRow (r .answer) ≡ refused badRange place) where
+  named : (place ≡ firstBad (k .settings) ts) × (firstBad (k .settings) ts < length ts)
+  named =
+      ⊎-elim
+      (λ c. absurd (omega (arith, c .1)))
+      (λ c. ⊎-elim (λ f. (f .2, leb-false (length ts) (firstBad (k .settings) ts) (all-by-place (k .settings) ts ∙ f .0))) (λ f. absurd (f .1)) (c .1))
+      (row-lawful k ts .only badRange place (sym (h .answer) ∙ e))
+
+  -- it is a place of the row, and its stretch isn't in range
+  pub row-is-bad : (place < length ts) × (within (k .settings) (getD ts place none) ≡ false)
+  row-is-bad = rw (named .0) (named .1, bad-there (k .settings) ts (named .1))
+
+  -- every stretch before it is
+  pub row-before : (i : ℕ) → i < place → within (k .settings) (getD ts i none) ≡ true
+  row-before i l = good-before (k .settings) ts i (omega (arith, named .0, l))
 
 -- what a refused opening or reading hands back is zero everywhere
 pub sketch-zeros : noSketch ≡ record { settings = noSettings; level = 0; count = 0; cells = replicate 504 0 }

@@ -1,5 +1,5 @@
--- Demand 3, over all histories of opening, adding, merging and reading back.
---     made-good       a history has good settings
+-- Demand 3, over all histories of opening, adding, adding rows, merging and reading back. What it says of rows besides is in Rows.antt.
+--     made-good, made-sketch    a history has good settings, and its sketch is one
 --     the-sketch      a history's sketch is the sketch of all cells added
 --  1  exact, lowest-is    its level is the lowest at which the passing cells among them fit, and its sample is exactly those
 --     added-in-grid   only cells of 1..n are added
@@ -35,15 +35,19 @@ use Rattle.sketch.specs.Sketches.{isSketch, cellsOf, sketchAt, sketchFrom, open
 use Rattle.sketch.specs.Calls.{noSketch, openOn, addOn, mergeOn, sameSettings, handed, Hands}
 use Rattle.sketch.proofs.Facts.{facts-sketch, facts-same}
 use Rattle.sketch.proofs.Making.{sketchOf, sound, cells-from, open-law, add-law, merge-law}
-use Rattle.sketch.proofs.Handing.{add-bad, add-in, merge-both}
+use Rattle.sketch.proofs.Handing.{add-bad, merge-both}
+use Rattle.row.specs.Stretches.{allIn, firstBad, addAll, rowCells, rowOn}
+use Rattle.row.proofs.Runs.{add-all-law, row-cells-in}
+use Rattle.row.proofs.Rows.{row-bad}
 use Rattle.image.specs.Images.{imageAs, imageOf}
 use Rattle.demands.proofs.Demand2.{wrote, handed-next, sketch-round-trip}
-use Rattle.demands.specs.Histories.{Made, imageFor, HasImage, brings, opening, adding, merging, refusing, reading}
+use Rattle.demands.specs.Histories.{Made, imageFor, HasImage, brings, opening, adding, rowing, merging, refusing, reading}
 
 pub made-good : (s : Settings) (X : Cells) (k : Sketch) → Made s X k → Good s
 unfolding openOn
 made-good s X k (opening r h e) = good-facts s (unless-told (isGood s) badSettings (answered []) [] (sym (h .answer) ∙ e) .0)
 made-good s X k (adding {X = Y} {k = j} m lo hi r h) = made-good s Y j m
+made-good s X k (rowing {X = Y} {k = j} m ts r h) = made-good s Y j m
 made-good s X k (merging {X = Y} {Y = Z} {j = i} {k = j} m n r h) = made-good s Y i m
 made-good s X k (refusing {X = Y} {j = j} m i r h number place e) = made-good s Y j m
 made-good s X k (reading {X = Y} {k = j} m room after w v n e r h) = made-good s Y j m
@@ -64,74 +68,49 @@ module _ (s : Settings) (good : Good s) where
   opens : (r : Changed) → Hands (openOn s) (opened s) noSketch r → ofAnswer (r .answer) ≡ answered [] → r .sketch ≡ sketchOf s noCells
   opens r h e = handed-next (openOn s) (opened s) noSketch (r .sketch) [] (sym (h .answer) ∙ e) (h .sketch) ∙ open-law s
 
-  -- adding to the sketch of a set
-  adds : (X : Cells) (lo hi : ℕ) (r : Changed) → Hands (addOn (sketchOf s X) lo hi) (add (sketchOf s X) lo hi) (sketchOf s X) r
-      → r .sketch ≡ sketchOf s (X ∪ brings (addOn (sketchOf s X) lo hi) (interval lo hi))
-  adds X lo hi r h =
-      let k = sketchOf s X in
-      ⊎-elim
-      (λ (e : inRange (k .settings) lo hi ≡ true).
-      let p : addOn k lo hi ≡ answered [] = add-in k lo hi (is-sketch X) e in
-      handed-next (addOn k lo hi) (add k lo hi) k (r .sketch) [] p (h .sketch)
-      ∙ add-law s good X 0 lo hi (omega arith)
-      ∙ ap (λ (q : Paper). sketchOf s (X ∪ brings q (interval lo hi))) (sym p))
-      (λ (e : inRange (k .settings) lo hi ≡ false).
-      let p : addOn k lo hi ≡ refused badRange 0 = add-bad k lo hi (is-sketch X) e in
-      handed-old (addOn k lo hi) (add k lo hi) k (r .sketch) badRange 0 p (h .sketch)
-      ∙ ap (sketchOf s) (fun-ext (λ x. sym (or-false (X x))))
-      ∙ ap (λ (q : Paper). sketchOf s (X ∪ brings q (interval lo hi))) (sym p))
-      (tested (inRange (k .settings) lo hi))
-
-  merges : (X Y : Cells) (r : Changed) → Hands (mergeOn (sketchOf s X) (sketchOf s Y)) (merge (sketchOf s X) (sketchOf s Y)) (sketchOf s X) r
-      → r .sketch ≡ sketchOf s (X ∪ brings (mergeOn (sketchOf s X) (sketchOf s Y)) Y)
-  merges X Y r h =
-      let j = sketchOf s X in
-      let k = sketchOf s Y in
-      let same : sameSettings (j .settings) (k .settings) ≡ true = rw (settings-of X, settings-of Y) (facts-same s) in
-      let p : mergeOn j k ≡ answered [] = merge-both j k (is-sketch X) (is-sketch Y) same in
-      handed-next (mergeOn j k) (merge j k) j (r .sketch) [] p (h .sketch)
-      ∙ merge-law s good X Y 0 0 (omega arith) (omega arith)
-      ∙ ap (λ (q : Paper). sketchOf s (X ∪ brings q Y)) (sym p)
-
-  refuses : (X : Cells) (k : Sketch) (r : Changed) → Hands (mergeOn (sketchOf s X) k) (merge (sketchOf s X) k) (sketchOf s X) r → (number place : ℕ)
-      → ofAnswer (r .answer) ≡ refused number place → r .sketch ≡ sketchOf s X
-  refuses X k r h number place e =
-      handed-old (mergeOn (sketchOf s X) k) (merge (sketchOf s X) k) (sketchOf s X) (r .sketch) number place (sym (h .answer) ∙ e) (h .sketch)
+  -- a call to the sketch of a set, whose next sketch is that of this set with more cells
+  gains : (X Y : Cells) (paper : Paper) (next old k : Sketch) → old ≡ sketchOf s X → next ≡ sketchOf s (X ∪ Y) → k ≡ handed paper next old
+      → k ≡ sketchOf s (X ∪ brings paper Y)
+  gains X Y (answered values) next old k o n h = h ∙ n
+  gains X Y (refused number place) next old k o n h = h ∙ o ∙ ap (sketchOf s) (fun-ext (λ x. sym (or-false (X x))))
 
   pub the-sketch : (X : Cells) (k : Sketch) → Made s X k → k ≡ sketchOf s X
   the-sketch X k (opening r h e) = opens r h e
   the-sketch X k (adding {X = Y} {k = j} m lo hi r h) =
       let ih : j ≡ sketchOf s Y = the-sketch Y j m in
-      adds Y lo hi r (subst (λ (v : Sketch). Hands (addOn v lo hi) (add v lo hi) v r) ih h)
-      ∙ ap (λ (v : Sketch). sketchOf s (Y ∪ brings (addOn v lo hi) (interval lo hi))) (sym ih)
+      gains Y (interval lo hi) (addOn j lo hi) (add j lo hi) j (r .sketch) ih
+      (ap (λ (v : Sketch). add v lo hi) ih ∙ add-law s good Y 0 lo hi (omega arith)) (h .sketch)
+  the-sketch X k (rowing {X = Y} {k = j} m ts r h) =
+      let ih : j ≡ sketchOf s Y = the-sketch Y j m in
+      gains Y (rowCells ts) (rowOn j ts) (addAll j ts) j (r .sketch) ih
+      (ap (λ (v : Sketch). addAll v ts) ih ∙ add-all-law s good Y 0 (omega arith) ts) (h .sketch)
   the-sketch X k (merging {X = Y} {Y = Z} {j = i} {k = j} m n r h) =
       let a : i ≡ sketchOf s Y = the-sketch Y i m in
       let b : j ≡ sketchOf s Z = the-sketch Z j n in
-      let both : Hands (mergeOn (sketchOf s Y) j) (merge (sketchOf s Y) j) (sketchOf s Y) r = subst (λ (v : Sketch). Hands (mergeOn v j) (merge v j) v r) a h in
-      merges Y Z r (subst (λ (v : Sketch). Hands (mergeOn (sketchOf s Y) v) (merge (sketchOf s Y) v) (sketchOf s Y) r) b both)
-      ∙ ap (λ (v : Sketch). sketchOf s (Y ∪ brings (mergeOn v (sketchOf s Z)) Z)) (sym a)
-      ∙ ap (λ (v : Sketch). sketchOf s (Y ∪ brings (mergeOn i v) Z)) (sym b)
+      gains Y Z (mergeOn i j) (merge i j) i (r .sketch) a
+      (ap (λ (v : Sketch). merge v j) a ∙ ap (merge (sketchOf s Y)) b ∙ merge-law s good Y Z 0 0 (omega arith) (omega arith)) (h .sketch)
   the-sketch X k (refusing {X = Y} {j = j} m i r h number place e) =
-      refuses Y i r (subst (λ (v : Sketch). Hands (mergeOn v i) (merge v i) v r) (the-sketch Y j m) h) number place e
+      handed-old (mergeOn j i) (merge j i) j (r .sketch) number place (sym (h .answer) ∙ e) (h .sketch) ∙ the-sketch Y j m
   the-sketch X k (reading {X = Y} {k = j} m room after w v n e r h) =
       let ih : j ≡ sketchOf s Y = the-sketch Y j m in
       sketch-round-trip j room after w n v e r h .1 ∙ ih
 
--- what a call brought was among what it was given
+pub made-sketch : (s : Settings) (X : Cells) (k : Sketch) → Made s X k → isSketch k ≡ true
+made-sketch s X k m = let g = made-good s X k m in ap isSketch (the-sketch s g X k m) ∙ is-sketch s g X
+
 or-cases : (t u : Bool) → (t || u) ≡ true → (t ≡ true) ⊎ (u ≡ true)
 or-cases true u e = inl refl
 or-cases false u e = inr e
 
+-- what a call brought was among what it was given
 brought : (paper : Paper) (X : Cells) (x : ℕ) → brings paper X x ≡ true → X x ≡ true
 brought (answered values) X x e = e
 brought (refused number place) X x e = absurd (false≢true e)
 
-in-range : (k : Sketch) (lo hi x : ℕ) → isSketch k ≡ true → brings (addOn k lo hi) (interval lo hi) x ≡ true → inRange (k .settings) lo hi ≡ true
-in-range k lo hi x g e =
-    ⊎-elim
-    (λ h. h)
-    (λ (h : inRange (k .settings) lo hi ≡ false). absurd (false≢true (sym (ap (λ (q : Paper). brings q (interval lo hi) x) (add-bad k lo hi g h)) ∙ e)))
-    (tested (inRange (k .settings) lo hi))
+-- and the test that refuses it held
+granted : (t : Bool) (paper : Paper) (number place : ℕ) (X : Cells) (x : ℕ) → (t ≡ false → paper ≡ refused number place) → brings paper X x ≡ true → t ≡ true
+granted true paper number place X x f e = refl
+granted false paper number place X x f e = absurd (false≢true (sym (ap (λ (q : Paper). brings q X x) (f refl)) ∙ e))
 
 -- the level of a set's sketch is the lowest at which its passing cells fit
 pub lowest-is : (s : Settings) → Good s → (X : Cells) → (fits s X (lowest s X 0) ≡ true) × ((l : ℕ) → fits s X l ≡ true → lowest s X 0 ≤ l)
@@ -181,18 +160,23 @@ exact s X k h =
 pub added-in-grid : (s : Settings) (X : Cells) (k : Sketch) → Made s X k → (x : ℕ) → X x ≡ true → (1 ≤ x) × (x ≤ s .n)
 added-in-grid s X k (opening r h e) x m = absurd (false≢true m)
 added-in-grid s X k (adding {X = Y} {k = j} a lo hi r h) x m =
-    let g = made-good s Y j a in
-    let e : j ≡ sketchOf s Y = the-sketch s g Y j a in
     ⊎-elim
     (λ (w : Y x ≡ true). added-in-grid s Y j a x w)
     (λ (w : brings (addOn j lo hi) (interval lo hi) x ≡ true).
-    let t : inRange (j .settings) lo hi ≡ true = in-range j lo hi x (ap isSketch e ∙ is-sketch s g Y) w in
-    let v : interval lo hi x ≡ true = sym (ap (λ (q : Paper). brings q (interval lo hi) x) (add-in j lo hi (ap isSketch e ∙ is-sketch s g Y) t)) ∙ w in
+    let t = granted (inRange (j .settings) lo hi) (addOn j lo hi) badRange 0 (interval lo hi) x (add-bad j lo hi (made-sketch s Y j a)) w in
     let b = range-facts (j .settings) lo hi t in
-    let l : s .n ≡ j .settings .n = sym (ap (λ (q : Sketch). q .settings .n) e ∙ ap (λ (q : Settings). q .n) (settings-of s g Y)) in
-    let c = and-parts (leb lo x) (leb x hi) v in
+    let l : j .settings .n ≡ s .n = ap (λ (q : Settings). q .n) (exact s Y j a .0) in
+    let c = and-parts (leb lo x) (leb x hi) (brought (addOn j lo hi) (interval lo hi) x w) in
     (omega (arith, leb-true lo x (c .0)), omega (arith, leb-true x hi (c .1))))
     (or-cases (Y x) (brings (addOn j lo hi) (interval lo hi) x) m)
+added-in-grid s X k (rowing {X = Y} {k = j} a ts r h) x m =
+    ⊎-elim
+    (λ (w : Y x ≡ true). added-in-grid s Y j a x w)
+    (λ (w : brings (rowOn j ts) (rowCells ts) x ≡ true).
+    let place = firstBad (j .settings) ts in
+    let t = granted (allIn (j .settings) ts) (rowOn j ts) badRange place (rowCells ts) x (row-bad j ts (made-sketch s Y j a)) w in
+    subst (λ (q : Settings). (1 ≤ x) × (x ≤ q .n)) (exact s Y j a .0) (row-cells-in (j .settings) ts x t (brought (rowOn j ts) (rowCells ts) x w)))
+    (or-cases (Y x) (brings (rowOn j ts) (rowCells ts) x) m)
 added-in-grid s X k (merging {X = Y} {Y = Z} {j = i} {k = j} a b r h) x m =
     ⊎-elim (λ w. added-in-grid s Y i a x w) (λ w. added-in-grid s Z j b x (brought (mergeOn i j) Z x w)) (or-cases (Y x) (brings (mergeOn i j) Z x) m)
 added-in-grid s X k (refusing {X = Y} {j = j} a i r h number place e) x m = added-in-grid s Y j a x m

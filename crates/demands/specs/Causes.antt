@@ -16,18 +16,23 @@ use Rattle.find.specs.Walking.{isWalker}
 use Rattle.sketch.specs.declared.Sketch.{Sketch}
 use Rattle.sketch.specs.Sketches.{isSketch}
 use Rattle.sketch.specs.Calls.{sameSettings}
+use Rattle.row.specs.declared.Stretch.{Stretch}
+use Rattle.row.specs.Stretches.{allIn, firstBad}
 use Rattle.image.specs.Images.{imageOf, saidSettings}
 use Rattle.image.specs.Shapes.{blocksIn, firstWrong}
 use Rattle.image.specs.Calls.{rightLength, marked, isImage}
 
--- what must hold, and the refusal where it doesn't: its number and its place: the block for 7, zero elsewhere
+-- what must hold, and the refusal where it doesn't: its number and its place: the block for 7, the first bad stretch for a row's 2, zero elsewhere
 pub record Rule : Type 0 where
   pub holds : Bool
   pub number : ℕ
   pub place : ℕ
 
+abbrev pub ruleAt : Bool → ℕ → ℕ → Rule
+ruleAt holds number place = record { holds = holds; number = number; place = place }
+
 abbrev pub rule : Bool → ℕ → Rule
-rule holds number = record { holds = holds; number = number; place = 0 }
+rule holds number = ruleAt holds number 0
 
 -- the first of the rules that is broken has this number and place
 abbrev pub Cause : List Rule → ℕ → ℕ → Type 0
@@ -72,6 +77,9 @@ openRules s = rule (isGood s) badSettings ∷ []
 abbrev pub addRules : Sketch → ℕ → ℕ → List Rule
 addRules k lo hi = rule (isSketch k) notOne ∷ rule (inRange (k .settings) lo hi) badRange ∷ []
 
+abbrev pub rowRules : Sketch → List Stretch → List Rule
+rowRules k ts = rule (isSketch k) notOne ∷ ruleAt (allIn (k .settings) ts) badRange (firstBad (k .settings) ts) ∷ []
+
 abbrev pub mergeRules : Sketch → Sketch → List Rule
 mergeRules j k = rule (isSketch j) notOne ∷ rule (isSketch k) notOne ∷ rule (sameSettings (j .settings) (k .settings)) unequal ∷ []
 
@@ -84,7 +92,7 @@ writeRules k room = rule (isSketch k) notOne ∷ rule (leb (length (imageOf k)) 
 abbrev pub readRules : List ℕ → List Rule
 readRules s =
     rule (rightLength (length s)) badImage ∷
-    record { holds = not (ltb (firstWrong s) (blocksIn s)); number = badCheck; place = firstWrong s } ∷
+    ruleAt (not (ltb (firstWrong s) (blocksIn s))) badCheck (firstWrong s) ∷
     rule (marked s) badImage ∷
     rule (isGood (saidSettings s)) badSettings ∷
     rule (isImage s) badImage ∷ []

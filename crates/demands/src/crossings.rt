@@ -2,7 +2,7 @@
 ghost use Rattle.find.specs.Finding.{countOn, nextOn};
 ghost use Rattle.sketch.specs.Estimates.{estimateOn};
 ghost use Rattle.host.specs.Crossing.{settingsFrom, sketchIn, walkerIn};
-ghost use Rattle.host.specs.Crossing.{Crosses, Weighs, Opens, Adds, Merges, ReadsIn, WritesOut, Begins, Moves};
+ghost use Rattle.host.specs.Crossing.{Crosses, Weighs, Opens, Adds, AddsRow, Merges, ReadsIn, WritesOut, Begins, Moves};
 use host::crossing::SETTINGS;
 use host::crossing::SKETCH;
 use host::crossing::WALKER;
@@ -10,7 +10,9 @@ use host::told::ToldBlock;
 use host::told::ToldCell;
 use host::told::ToldDouble;
 use host::told::ToldLength;
+use host::told::ToldPlace;
 use host::told::ToldValue;
+use row::Stretch;
 
 pub fn opens(settings: &[u32; SETTINGS], sketch: &mut [u32; SKETCH]) -> u32
     ensures { λ r. ⌜ Opens (now (settings .entry)) r (now (sketch .exit)) ⌝ }
@@ -22,6 +24,12 @@ pub fn adds(sketch: &mut [u32; SKETCH], lo: u32, hi: u32) -> u32
     ensures { λ r. ⌜ Adds (now (sketch .entry)) lo hi r (now (sketch .exit)) ⌝ }
 {
     host::pot_add(sketch, lo, hi)
+}
+
+pub fn adds_row(sketch: &mut [u32; SKETCH], row: &[Stretch]) -> ToldPlace
+    ensures { λ r. ⌜ AddsRow (now (sketch .entry)) (now (row .entry)) (r .number) (r .place) (now (sketch .exit)) ⌝ }
+{
+    host::pot_add_row(sketch, row)
 }
 
 pub fn merges(sketch: &mut [u32; SKETCH], other: &[u32; SKETCH]) -> u32

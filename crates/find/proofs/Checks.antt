@@ -2,7 +2,7 @@
 --     denied, granted     what a call's promise says where its answer was tested
 --     and-parts           two tests that hold together
 --     settings-first, level-second, range-third, none-left    the refusals 1, 3, 2 in this order, and then none
---     unless-told, all-told     an answer says that the tests held
+--     at-told, unless-told, all-told     an answer says that the tests held
 --     refused-so, answered-so, all-held    what the number of its refusal says of a call
 --     range-facts     a range's test as facts
 --     within-range, within-cell     what passes the tests is what the inner calls take
@@ -16,7 +16,7 @@ use lib.Dec.{leb}
 use borrow.Author.Tests.{leb-true, eq-eqb, ne-eqb, not-true, not-false}
 use Rattle.rule.specs.declared.Settings.{Settings}
 use Rattle.rule.specs.Rule.{isGood, top}
-use Rattle.rule.specs.Refusals.{Paper, answered, refused, unless, badSettings, badLevel, badRange}
+use Rattle.rule.specs.Refusals.{Paper, answered, refused, unless, unlessAt, badSettings, badLevel, badRange}
 use Rattle.rule.proofs.Facts.{good-facts}
 use Rattle.find.specs.Finding.{isCell, inRange, onSettings, Refuses, Within}
 
@@ -44,9 +44,12 @@ range-third s level t g l r = record { so = λ x. cc }
 pub none-left : (s : Settings) (level : ℕ) (t : Bool) → isGood s ≡ true → leb level (top s) ≡ true → t ≡ true → Refuses s level t 0
 none-left s level t g l r = record { so = λ x. cc }
 
+pub at-told : (t : Bool) (number place : ℕ) (x : Paper) (values : List ℕ) → unlessAt t number place x ≡ answered values → (t ≡ true) × (x ≡ answered values)
+at-told true number place x values e = (refl, e)
+at-told false number place x values e = let z : _≡_ {A = ℕ} 0 1 = cc in absurd (omega arith)
+
 pub unless-told : (t : Bool) (number : ℕ) (x : Paper) (values : List ℕ) → unless t number x ≡ answered values → (t ≡ true) × (x ≡ answered values)
-unless-told true number x values e = (refl, e)
-unless-told false number x values e = let z : _≡_ {A = ℕ} 0 1 = cc in absurd (omega arith)
+unless-told t number x values e = at-told t number 0 x values e
 
 pub all-told : (s : Settings) (level : ℕ) (t : Bool) (x : Paper) (values : List ℕ) → onSettings s level t x ≡ answered values
     → (isGood s ≡ true) × (leb level (top s) ≡ true) × (t ≡ true) × (x ≡ answered values)

@@ -3,7 +3,7 @@
 --     row-again, walker-row-again    and a row of 511 numbers from its sketch, a row of eight from its walker: so a refused row is unchanged
 --     zero-row, zero-walker-row    the rows of all zeros
 --     head-stored, cells-stored, cells-lent    a row, as the code stores it in two parts
---     parts-in, row-kept-in    a sketch's parts, as the code lends them
+--     settings-of-row, parts-in, row-kept-in    a sketch's parts, as the code lends them
 -- Assumes nothing.
 use mathlib.Core.Path.{_≡_, refl, sym, ap, _∙_, subst}
 use mathlib.Core.Bool.{true}
@@ -20,7 +20,7 @@ use Rattle.find.specs.Walking.{noWalker}
 use Rattle.sketch.specs.declared.Sketch.{Sketch}
 use Rattle.sketch.specs.Sketches.{held, sketchAt, keptOf, isSketch}
 use Rattle.sketch.specs.Calls.{noSketch}
-use Rattle.sketch.specs.Settling.{KeptIn}
+use Rattle.sketch.specs.Settling.{KeptRow}
 use Rattle.sketch.proofs.Facts.{sketch-facts}
 use Rattle.sketch.proofs.Handing.{row-kept}
 use Rattle.host.specs.Crossing.{settingsRow, settingsFrom, sketchRow, sketchIn, walkerRow, walkerIn}
@@ -99,14 +99,19 @@ pub cells-lent : (row cells : List ℕ) → length row ≡ 511 → drop 7 (take 
 cells-lent row cells e =
     behind row cells (drop (length row - 7) (drop 7 row)) e (drop-of-length-le (drop 7 row) {i = length row - 7} (omega (arith, length-drop 7 row)))
 
+-- a row's settings are those of what stands in it
+pub settings-of-row : (row : List ℕ) → sketchIn row .settings ≡ settingsFrom row
+unfolding sketchIn
+settings-of-row row = refl
+
 -- a sketch's parts, as the code lends them: the whole row behind the seven numbers
 pub parts-in : (row : List ℕ) (s : Settings) → s ≡ settingsFrom row → held s (getD row 5 0) (getD row 6 0) (take (length row - 7) (drop 7 row)) ≡ sketchIn row
 unfolding sketchIn
 parts-in row s e = rw (e, part-rest row 7)
 
--- and where they are a sketch's: cells kept at its level
+-- and where they are a sketch's: cells kept at its level, and zeros after them
 pub row-kept-in : (row : List ℕ) (s : Settings) → length row ≡ 511 → s ≡ settingsFrom row → isSketch (sketchIn row) ≡ true
-    → KeptIn s (keptOf (sketchIn row)) (take (length row - 7) (drop 7 row))
+    → KeptRow s (keptOf (sketchIn row)) (take (length row - 7) (drop 7 row))
 unfolding sketchIn
 row-kept-in row s e q k =
     let sized : length (drop 7 row) ≡ 504 = length-drop 7 row ∙ omega arith in

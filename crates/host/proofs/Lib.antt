@@ -4,3 +4,5 @@ pub mod Outcomes
 pub mod Refusing
 pub mod Tight
 pub mod Zeros
+pub mod Data
+pub mod Stretching

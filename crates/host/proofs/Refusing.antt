@@ -1,8 +1,8 @@
 -- What a refusal leaves. Where a call's number isn't 0, its values are 0, and no lent memory has changed,
 -- but for the row that opening and reading hand back as zeros.
 --     count-zero, hit-zero, cell-zero, length-zero, estimate-zero    the values of `pot_count`, `pot_next_hit`, `pot_walker_next`, `pot_write`, `pot_estimate`
---     block-seven    `pot_read` names a block with 7 alone
---     sketch-left, walker-left, room-left    what adding and merging, a walker's step and writing were lent
+--     block-seven, place-two    `pot_read` names a block with 7 alone, and `pot_add_row` a place with 2 alone
+--     sketch-left, row-left, walker-left, room-left    what adding and merging, adding a row, a walker's step and writing were lent
 --     sketch-zeroed, read-zeroed, walker-zeroed    what opening, reading and opening a walker hand back
 -- Assumes nothing.
 use mathlib.Core.Path.{_≡_, refl, _∙_, subst}
@@ -17,7 +17,7 @@ use lib.ListN.{length, replicate}
 use Rattle.rule.specs.declared.Settings.{Settings}
 use Rattle.rule.specs.Rule.{isGood, top}
 use Rattle.rule.specs.Samples.{rangeCount, nextHit}
-use Rattle.rule.specs.Refusals.{Outcome, Paper, answered, refused, unless, badSettings, badRange, badLevel, notOne, noRoom, badCheck, badImage}
+use Rattle.rule.specs.Refusals.{Outcome, Paper, answered, refused, unless, unlessAt, badSettings, badRange, badLevel, notOne, noRoom, badCheck, badImage}
 use Rattle.find.specs.declared.Walker.{Walker}
 use Rattle.find.specs.Finding.{isCell, inRange, onSettings, hits, countOn, nextOn}
 use Rattle.find.specs.Walking.{startOn, isWalker, stepOn, walkerAt, started, moved, afterStep}
@@ -25,11 +25,13 @@ use Rattle.sketch.specs.declared.Sketch.{Sketch}
 use Rattle.sketch.specs.Estimates.{Weight, exactly, about}
 use Rattle.sketch.specs.Sketches.{isSketch}
 use Rattle.sketch.specs.Calls.{noSketch, handed}
+use Rattle.row.specs.declared.Stretch.{Stretch}
+use Rattle.row.specs.Stretches.{allIn, firstBad, addAll, rowOn}
 use Rattle.image.specs.Images.{imageOf, saidSettings, spelled}
 use Rattle.image.specs.Shapes.{blocksIn, firstWrong}
 use Rattle.image.specs.Calls.{writeOn, roomAfter, rightLength, marked, isImage, readMarked, readOn}
 use Rattle.host.specs.Crossing.{sketchRow, sketchIn, walkerRow, walkerIn, toldNumber, toldValue}
-use Rattle.host.specs.Crossing.{Crosses, Gives, ReadsIn, WritesOut, Begins, Moves, Weighs}
+use Rattle.host.specs.Crossing.{Crosses, Gives, AddsRow, ReadsIn, WritesOut, Begins, Moves, Weighs}
 use Rattle.host.proofs.Crossings.{row-again, walker-row-again, zero-row, zero-walker-row}
 
 -- a paper that has no value with a refusal
@@ -77,30 +79,54 @@ module _ {r v : ℕ} (refusal : 0 < r) where
   estimate-zero (answered (about y)) w = absurd (omega (arith, refusal, w .number))
   estimate-zero (refused number place) w = (w .exact, w .value)
 
--- a paper that names a block with 7 alone
-Seven : Paper → Type 0
-Seven paper = 0 < toldValue paper → toldNumber paper ≡ badCheck
+-- a paper that names a place with this number alone
+module _ (number : ℕ) where
+  Alone : Paper → Type 0
+  Alone paper = 0 < toldValue paper → toldNumber paper ≡ number
 
-seven-unless : (holds : Bool) (number : ℕ) (paper : Paper) → Seven paper → Seven (unless holds number paper)
-unfolding Seven
-seven-unless true number paper s = s
-seven-unless false number paper s = λ h. absurd (omega (arith, h))
+  alone-done : Alone (answered [])
+  unfolding Alone
+  alone-done h = absurd (omega (arith, h))
 
-seven-check : (wrong : Bool) (block : ℕ) (paper : Paper) → Seven paper → Seven (cond wrong (refused badCheck block) paper)
-unfolding Seven
-seven-check true block paper s = λ h. refl
-seven-check false block paper s = s
+  alone-unless : (holds : Bool) (other : ℕ) (paper : Paper) → Alone paper → Alone (unless holds other paper)
+  unfolding Alone
+  alone-unless true other paper s = s
+  alone-unless false other paper s = λ h. absurd (omega (arith, h))
 
-seven-read : (bytes : List ℕ) → Seven (readOn bytes)
-unfolding Seven readOn readMarked
+  alone-at : (holds : Bool) (place : ℕ) (paper : Paper) → Alone paper → Alone (unlessAt holds number place paper)
+  unfolding Alone
+  alone-at true place paper s = s
+  alone-at false place paper s = λ h. refl
+
+  alone-check : (wrong : Bool) (place : ℕ) (paper : Paper) → Alone paper → Alone (cond wrong (refused number place) paper)
+  unfolding Alone
+  alone-check true place paper s = λ h. refl
+  alone-check false place paper s = s
+
+  alone-told : {r place : ℕ} (paper : Paper) → Alone paper → 0 < place → Crosses paper r place → r ≡ number
+  unfolding Alone
+  alone-told paper s h c = c .number ∙ s (subst (λ (m : ℕ). 0 < m) (c .value) h)
+
+seven-read : (bytes : List ℕ) → Alone badCheck (readOn bytes)
+unfolding readOn readMarked
 seven-read bytes =
-    let all = seven-unless (isImage bytes) badImage (answered []) (λ h. absurd (omega (arith, h))) in
-    let marks = seven-unless (marked bytes) badImage _ (seven-unless (isGood (saidSettings bytes)) badSettings _ all) in
-    seven-unless (rightLength (length bytes)) badImage _ (seven-check (ltb (firstWrong bytes) (blocksIn bytes)) (firstWrong bytes) _ marks)
+    let all = alone-unless badCheck (isImage bytes) badImage (answered []) (alone-done badCheck) in
+    let marks = alone-unless badCheck (marked bytes) badImage _ (alone-unless badCheck (isGood (saidSettings bytes)) badSettings _ all) in
+    let checks = alone-check badCheck (ltb (firstWrong bytes) (blocksIn bytes)) (firstWrong bytes) _ marks in
+    alone-unless badCheck (rightLength (length bytes)) badImage _ checks
 
-pub block-seven : {r block : ℕ} {after : List ℕ} (bytes : List ℕ) → 0 < block → ReadsIn bytes r block after → r ≡ badCheck
-unfolding Seven
-block-seven bytes h d = d .told .number ∙ seven-read bytes (subst (λ (m : ℕ). 0 < m) (d .told .value) h)
+two-row : (k : Sketch) (ts : List Stretch) → Alone badRange (rowOn k ts)
+unfolding rowOn
+two-row k ts =
+    let all = alone-at badRange (allIn (k .settings) ts) (firstBad (k .settings) ts) (answered []) (alone-done badRange) in
+    alone-unless badRange (isSketch k) notOne _ all
+
+module _ {r place : ℕ} {after : List ℕ} where
+  pub block-seven : (bytes : List ℕ) → 0 < place → ReadsIn bytes r place after → r ≡ badCheck
+  block-seven bytes h d = alone-told badCheck (readOn bytes) (seven-read bytes) h (d .told)
+
+  pub place-two : (before : List ℕ) (ts : List Stretch) → 0 < place → AddsRow before ts r place after → r ≡ badRange
+  place-two before ts h d = alone-told badRange (rowOn (sketchIn before) ts) (two-row (sketchIn before) ts) h (d .told)
 
 -- the paper of a call whose number isn't 0 is a refusal, so what it gives is what refusals give
 module _ {r : ℕ} (refusal : 0 < r) {A : Type 0} (same : A) (given : Paper → A) where
@@ -114,6 +140,10 @@ module _ {r : ℕ} {after : List ℕ} (refusal : 0 < r) where
   sketch-left paper next before e g =
       g .row
       ∙ refused-alone refusal before (λ (p : Paper). sketchRow (handed p next (sketchIn before))) paper (g .number) (λ number place. row-again before e)
+
+  pub row-left : {place : ℕ} (before : List ℕ) (ts : List Stretch) → length before ≡ 511 → AddsRow before ts r place after → after ≡ before
+  row-left before ts e d =
+      sketch-left (rowOn (sketchIn before) ts) (addAll (sketchIn before) ts) before e (record { number = d .told .number; row = d .row })
 
   pub sketch-zeroed : (paper : Paper) (next : Sketch) → Gives paper next noSketch r after → after ≡ replicate 511 0
   sketch-zeroed paper next g =

@@ -2,6 +2,7 @@
 --     gives-tight    `pot_open`, `pot_add`, `pot_merge`: the number and the row
 --     crosses-tight    `pot_count`, `pot_next_hit`: the number and the value
 --     writes-tight, reads-tight    `pot_write`, `pot_read`
+--     adds-row-tight    `pot_add_row`: the number, the place and the row
 --     starts-tight, steps-tight    `pot_walker_open`, `pot_walker_next`
 --     estimates-tight    `pot_estimate`: the number, whether it is exact, and the double
 -- Assumes nothing.
@@ -14,7 +15,8 @@ use Rattle.rule.specs.Refusals.{Outcome, Paper}
 use Rattle.find.specs.declared.Walker.{Walker}
 use Rattle.sketch.specs.declared.Sketch.{Sketch}
 use Rattle.sketch.specs.Estimates.{Weight}
-use Rattle.host.specs.Crossing.{Crosses, Gives, ReadsIn, WritesOut, Begins, Moves, Weighs}
+use Rattle.row.specs.declared.Stretch.{Stretch}
+use Rattle.host.specs.Crossing.{Crosses, Gives, AddsRow, ReadsIn, WritesOut, Begins, Moves, Weighs}
 
 module _ {r q : ℕ} where
   pub estimates-tight : {t u : ℕ} {x y : Float} (a : Outcome Weight) → Weighs a r t x → Weighs a q u y → (r ≡ q) × (t ≡ u) × (x ≡ y)
@@ -31,6 +33,10 @@ module _ {r q : ℕ} where
     starts-tight s level lo hi e f = (e .number ∙ sym (f .number), e .row ∙ sym (f .row))
 
     module _ {x y : ℕ} where
+      pub adds-row-tight : (before : List ℕ) (ts : List Stretch) → AddsRow before ts r x row → AddsRow before ts q y after
+          → ((r ≡ q) × (x ≡ y)) × (row ≡ after)
+      adds-row-tight before ts e f = (crosses-tight _ (e .told) (f .told), e .row ∙ sym (f .row))
+
       pub writes-tight : (k : Sketch) (room : List ℕ) → WritesOut k room r x row → WritesOut k room q y after → ((r ≡ q) × (x ≡ y)) × (row ≡ after)
       writes-tight k room e f = (crosses-tight _ (e .told) (f .told), e .contents ∙ sym (f .contents))
 

@@ -11,11 +11,14 @@ use Rattle.rule.specs.Refusals.{Outcome, Paper, answered, refused, ofTaken}
 use Rattle.find.specs.declared.Walker.{Walker}
 use Rattle.find.specs.Walking.{walkerAt, startOn, started, stepOn, afterStep}
 use Rattle.sketch.specs.declared.Sketch.{Sketch}
-use Rattle.sketch.specs.Sketches.{opened, add, merge}
+use Rattle.sketch.specs.Sketches.{isSketch, opened, add, merge}
 use Rattle.sketch.specs.Calls.{noSketch, handed, openOn, addOn, mergeOn}
 use Rattle.sketch.specs.Estimates.{Weight, exactly, about, estimateOn}
+use Rattle.row.specs.declared.Stretch.{Stretch}
+use Rattle.row.specs.Stretches.{addAll, rowOn}
 use Rattle.image.specs.Images.{spelled}
 use Rattle.image.specs.Calls.{writeOn, roomAfter, readOn}
+use Rattle.host.specs.declared.stretches.Asked.{Asked}
 
 -- settings as five numbers
 abbrev pub settingsRow : Settings → List ℕ
@@ -32,6 +35,10 @@ sketchRow k = settingsRow (k .settings) ++ (k .level ∷ k .count ∷ k .cells)
 unfoldable pub sketchIn : List ℕ → Sketch
 sketchIn row = record { settings = settingsFrom row; level = getD row 5 0; count = getD row 6 0; cells = drop 7 row }
 
+-- whether a row is a sketch's, and its settings
+abbrev pub askedOf : List ℕ → Asked
+askedOf row = record { known = isSketch (sketchIn row); settings = sketchIn row .settings }
+
 -- a walker as eight numbers: the settings, the level, the position, hi
 unfoldable pub walkerRow : Walker → List ℕ
 walkerRow w = settingsRow (w .settings) ++ (w .level ∷ w .at ∷ w .hi ∷ [])
@@ -44,7 +51,7 @@ abbrev pub toldNumber : {Told : Type 0} → Outcome Told → ℕ
 toldNumber (answered told) = 0
 toldNumber (refused number place) = number
 
--- beside it the answer's value, or the refusal's block; 0 where there is none
+-- beside it the answer's value, or the refusal's place; 0 where there is none
 abbrev pub toldValue : Paper → ℕ
 toldValue (answered []) = 0
 toldValue (answered (x ∷ xs)) = x
@@ -67,6 +74,11 @@ Opens settings r after = Gives (openOn (settingsFrom settings)) (opened (setting
 -- what adding promises, on the row lent
 abbrev pub Adds : List ℕ → ℕ → ℕ → ℕ → List ℕ → Type 0
 Adds before lo hi r after = Gives (addOn (sketchIn before) lo hi) (add (sketchIn before) lo hi) (sketchIn before) r after
+
+-- what adding a row of stretches promises, on the row lent
+pub record AddsRow (before : List ℕ) (ts : List Stretch) (r place : ℕ) (after : List ℕ) : Type 0 where
+  pub told : Crosses (rowOn (sketchIn before) ts) r place
+  pub row : after ≡ sketchRow (handed (rowOn (sketchIn before) ts) (addAll (sketchIn before) ts) (sketchIn before))
 
 -- what merging promises, on the row lent and the other
 abbrev pub Merges : List ℕ → List ℕ → ℕ → List ℕ → Type 0

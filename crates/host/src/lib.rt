@@ -7,9 +7,10 @@ ghost use Rattle.find.specs.Finding.{countOn, nextOn};
 ghost use Rattle.sketch.specs.Estimates.{ofEstimate, estimateOn};
 ghost use Rattle.image.specs.Calls.{Writes};
 ghost use Rattle.host.specs.Crossing.{settingsFrom, sketchIn, walkerIn};
-ghost use Rattle.host.specs.Crossing.{Crosses, Weighs, Opens, Adds, Merges, Fills, ReadsIn, WritesOut, Begins, Moves};
+ghost use Rattle.host.specs.Crossing.{Crosses, Weighs, Opens, Adds, AddsRow, Merges, Fills, ReadsIn, WritesOut, Begins, Moves};
 
 pub mod crossing;
+pub mod stretches;
 pub mod told;
 
 use crossing::SETTINGS;
@@ -23,6 +24,9 @@ use crossing::settings_in;
 use crossing::walker_in;
 use crossing::walker_row;
 use find::Walker;
+use row::Stretch;
+use row::is_done;
+use row::row_answer;
 use rule::Settings;
 use rule::answers::Answer;
 use rule::answers::Taken;
@@ -32,12 +36,15 @@ use sketch::Sketch;
 use sketch::estimates::Estimate;
 use sketch::order::add_answer;
 use sketch::order::merge_answer;
-use sketch::settle::add_to;
 use sketch::settle::merge_to;
+use stretches::add_each_in;
+use stretches::add_known;
+use stretches::asked_in;
 use told::ToldBlock;
 use told::ToldCell;
 use told::ToldDouble;
 use told::ToldLength;
+use told::ToldPlace;
 use told::ToldValue;
 use told::number_of;
 use told::told_block;
@@ -45,6 +52,7 @@ use told::told_cell;
 use told::told_count;
 use told::told_double;
 use told::told_length;
+use told::told_place;
 
 // Stores an empty sketch, or all zeros with a refusal.
 fn open_in(settings: &[u32], row: &mut [u32]) -> u32
@@ -69,9 +77,7 @@ fn add_in(row: &mut [u32], lo: u32, hi: u32) -> u32
     match answer {
         Answer::Refused(number) => number,
         Answer::Done => {
-            let mut out = [0u32; PLACES];
-            let kept = add_to(&mut out, s, kept_in(row), &row[7..], lo, hi);
-            put_sketch(row, s, kept.level, kept.count, &out);
+            add_known(row, lo, hi);
             0
         }
     }
@@ -134,6 +140,20 @@ pub extern "C" fn pot_add(sketch: &mut [u32; SKETCH], lo: u32, hi: u32) -> u32
     ensures { λ r. ⌜ Adds (now (sketch .entry)) lo hi r (now (sketch .exit)) ⌝ }
 {
     add_in(sketch, lo, hi)
+}
+
+// A row of stretches: all of it is added, or nothing.
+#[no_mangle]
+pub extern "C" fn pot_add_row(sketch: &mut [u32; SKETCH], row: &[Stretch]) -> ToldPlace
+    ensures { λ r. ⌜ AddsRow (now (sketch .entry)) (now (row .entry)) (r .number) (r .place) (now (sketch .exit)) ⌝ }
+{
+    let asked = asked_in(sketch);
+    let answer = row_answer(asked.known, asked.settings, row);
+    if !is_done(answer) {
+        return told_place(answer);
+    }
+    add_each_in(sketch, row);
+    told_place(answer)
 }
 
 #[no_mangle]

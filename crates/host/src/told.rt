@@ -1,12 +1,13 @@
 // Answers as C takes them, without an enum: the refusal's number, 0 where there is none, and the
 // value, 0 with a refusal. No pointer hands a value out, so a refusal has nothing to write.
 ghost use mathlib.Core.Path.{_≡_};
-ghost use Rattle.rule.specs.Refusals.{ofAnswer, ofCounted, ofFound, ofWritten, ofTaken};
+ghost use Rattle.rule.specs.Refusals.{ofAnswer, ofCounted, ofFound, ofWritten, ofTaken, ofRow};
 ghost use Rattle.sketch.specs.Estimates.{ofEstimate};
 ghost use Rattle.host.specs.Crossing.{toldNumber, Crosses, Weighs};
 use rule::answers::Answer;
 use rule::answers::Counted;
 use rule::answers::Found;
+use rule::answers::RowAnswer;
 use rule::answers::Taken;
 use rule::answers::Written;
 use sketch::estimates::Estimate;
@@ -35,6 +36,13 @@ pub struct ToldLength {
 pub struct ToldBlock {
     pub number: u32,
     pub block: u32,
+}
+
+// The place is that of the first bad stretch, which a row's 2 names.
+#[repr(C)]
+pub struct ToldPlace {
+    pub number: u32,
+    pub place: usize,
 }
 
 // `exact` is 1 where the value is exact, and otherwise 0.
@@ -94,6 +102,18 @@ pub fn told_block(t: Taken) -> ToldBlock
             number,
             block: place,
         },
+    }
+}
+
+pub fn told_place(a: RowAnswer) -> ToldPlace
+    ensures { λ r. ⌜ Crosses (ofRow a) (r .number) (r .place) ⌝ }
+{
+    match a {
+        RowAnswer::Done => ToldPlace {
+            number: 0,
+            place: 0,
+        },
+        RowAnswer::Refused { number, place } => ToldPlace { number, place },
     }
 }
 

@@ -1,5 +1,5 @@
 -- What a block says, written and read.
---     pad-length, pad-small     a list with zeros after it
+--     pad-small     a list with zeros after it
 --     zeros-behind, padded-back     the zeros are there, and a list with zeros after it is padded
 --     head-length, head-small, body-length, body-small      508 bytes
 --     body-shaped, body-cells     a cell block that was written has its shape, and its cells are read
@@ -19,7 +19,7 @@ use lib.ListN.{length, take, drop, replicate, length-append, length-replicate, l
 use lib.Seq.{take-at, drop-at, take-add, drop-drop, length-take-le}
 use borrow.Author.Tests.{eq-eqb, eqb-true}
 use Rattle.lists.specs.Rows.{pad, allZero}
-use Rattle.lists.proofs.Places.{zero-facts, zeros-zero}
+use Rattle.lists.proofs.Places.{pad-length, zero-facts, zeros-zero}
 use Rattle.rule.specs.declared.Settings.{Settings}
 use Rattle.block.specs.Little.{Bytes, bytesOf, numberAt}
 use Rattle.block.specs.Sums.{blockGood, sealed, plainOf, weightedOf}
@@ -28,9 +28,6 @@ use Rattle.block.proofs.Blocks.{good-sealed}
 use Rattle.image.specs.Images.{settingsBytes, fieldsOf, fieldsEnd, headWith, cellBytes, bodyOf, saidSettings, saidLevel, saidCount, numbersIn}
 use Rattle.image.specs.Shapes.{span, blockShaped}
 use Rattle.image.proofs.Fields.{field, there, Fours, cell-bytes-length, cell-bytes-small, numbers-length, numbers-bytes, bytes-numbers}
-
-pub pad-length : (n : ℕ) (xs : List ℕ) → length xs ≤ n → length (pad n xs) ≡ n
-pad-length n xs h = simp (length-append, length-replicate) (omega arith)
 
 zeros-small : (n : ℕ) → Bytes (replicate n 0)
 zeros-small zero i = lit< tt

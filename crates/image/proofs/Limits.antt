@@ -14,6 +14,7 @@ use lib.Dec.{lit<, lit≤, leb}
 use lib.ListN.{length, take}
 use lib.Seq.{length-take-le}
 use Rattle.lists.specs.Lists.{Rising}
+use Rattle.lists.proofs.Places.{pad-length}
 use Rattle.lists.proofs.Searches.{greatest-to}
 use Rattle.rule.specs.Rule.{top}
 use Rattle.sketch.specs.declared.Sketch.{Sketch}
@@ -21,7 +22,7 @@ use Rattle.sketch.specs.Sketches.{sketchAt, cellsOf, isSketch, Sound}
 use Rattle.sketch.proofs.Facts.{sketch-facts, made-count, count-few}
 use Rattle.image.specs.Images.{mark, blocksFor, imageOf, Writable}
 use Rattle.image.proofs.Fields.{Fours}
-use Rattle.image.proofs.Bodies.{Narrow, pad-length}
+use Rattle.image.proofs.Bodies.{Narrow}
 use Rattle.image.proofs.Spelling.{image-length}
 
 rising-fours : (xs : List ℕ) (lo hi : ℕ) → hi < 4294967296 → Rising lo hi xs → Fours xs

@@ -23,13 +23,12 @@ use Rattle.lists.specs.Searches.{least}
 use Rattle.lists.specs.Rows.{pad, placed}
 use Rattle.lists.proofs.Tests.{tested}
 use Rattle.lists.proofs.Searches.{least-now}
-use Rattle.lists.proofs.Places.{placed-after}
+use Rattle.lists.proofs.Places.{pad-length, placed-after}
 use Rattle.block.specs.Little.{numberAt}
 use Rattle.block.specs.Sums.{blockGood, sealed}
 use Rattle.image.specs.Images.{blocksFor, numbersIn, cellsIn, bodyOf, cellBlocks}
 use Rattle.image.specs.Shapes.{blockAt, blocksIn, firstWrong, blockShaped, blocksShaped}
 use Rattle.image.proofs.Fields.{numbers-more, numbers-length}
-use Rattle.image.proofs.Bodies.{pad-length}
 use Rattle.image.proofs.Chains.{one-length, shaped-turn, blocks-on, cells-at, cells-front, cells-length}
 
 -- the first i + 1 places after a store at i

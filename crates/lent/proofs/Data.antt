@@ -12,13 +12,13 @@ use Rattle.rule.proofs.answers.Found as Found
 use Rattle.rule.proofs.answers.Found.Laws as Found′
 
 abbrev pub walker : Plain Walker.the-row
-walker = of-struct Walker.the-type Walker′.the-laws Walker′.the-plain
+walker = of-struct Walker.the-type Walker′.the-laws Walker′.the-plain Walker′.the-copy
 
 abbrev pub stepped : Plain Stepped.the-row
-stepped = of-struct Stepped.the-type Stepped′.the-laws Stepped′.the-plain
+stepped = of-struct Stepped.the-type Stepped′.the-laws Stepped′.the-plain Stepped′.the-copy
 
 abbrev pub found : Plain Found.the-row
-found = of-enum Found.the-type Found′.the-laws tt Found′.the-plain
+found = of-enum Found.the-type Found′.the-laws tt Found′.the-plain Found′.the-copy
 
 abbrev pub word32 : Plain u32
 word32 = of-uint w32

@@ -6,6 +6,7 @@
 --     filter-none, filter-all    by a set with nothing of the list, and with all of it
 --     length-kept, length-left   the length, with one more tested
 --     filter-short, filter-fewer     a filter makes no list longer, and a smaller set no longer one
+--     filter-whole    a filter that makes a list no shorter takes all of it
 -- Assumes nothing.
 use mathlib.Core.Path.{_≡_, refl, sym, ap, _∙_}
 use mathlib.Core.Bool.{Bool, true, false, _&&_, _||_, and-false, or-true, or-assoc}
@@ -90,6 +91,16 @@ filter-short X (y ∷ ys) =
     ⊎-elim
     (λ (e : X y ≡ true). omega (arith, length-kept (X y) y (filter X ys) e, filter-short X ys))
     (λ (e : X y ≡ false). omega (arith, length-left (X y) y (filter X ys) e, filter-short X ys))
+    (tested (X y))
+
+pub filter-whole : (X : ℕ → Bool) (l : List ℕ) → length l ≤ length (filter X l) → filter X l ≡ l
+filter-whole X [] h = refl
+filter-whole X (y ∷ ys) h =
+    ⊎-elim
+    (λ (e : X y ≡ true).
+    let rest : filter X ys ≡ ys = filter-whole X ys (omega (arith, length-kept (X y) y (filter X ys) e)) in
+    cc)
+    (λ (e : X y ≡ false). absurd (omega (arith, length-left (X y) y (filter X ys) e, filter-short X ys)))
     (tested (X y))
 
 pub filter-fewer : (X Y : ℕ → Bool) (l : List ℕ) → ((x : ℕ) → listed l x ≡ true → X x ≡ true → Y x ≡ true) → length (filter X l) ≤ length (filter Y l)

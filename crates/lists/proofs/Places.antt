@@ -5,7 +5,7 @@
 --     placed-twice    two lists stored one after the other
 --     placed-more     one element stored after a list
 --     placed-pad, placed-after     a list stored in zeros, and after a list with zeros after it
---     pad-cut         a list with fewer zeros after it
+--     pad-length, pad-cut     how many places a list has with zeros after it; with fewer zeros
 --     zero-facts, zeros-zero       a row of nothing but zeros
 -- Assumes nothing.
 use mathlib.Core.Path.{_≡_, refl, sym, ap, _∙_}
@@ -16,7 +16,7 @@ use native.Mathlib.Omega.{arith}
 use native.Mathlib.Nat.{add-zero, zero-add}
 use native.Mathlib.Numerals.{add-one}
 use lib.Dec.{eqb}
-use lib.ListN.{length, take, drop, set, replicate, length-append, length-drop, take-append-drop}
+use lib.ListN.{length, take, drop, set, replicate, length-append, length-drop, length-replicate, take-append-drop}
 use lib.Seq.{length-take-le, drop-drop, take-at, drop-at, set-split}
 use borrow.Author.Tests.{eqb-true}
 use Rattle.lists.specs.Rows.{pad, placed, allZero}
@@ -69,6 +69,9 @@ take-zeros : (k n : ℕ) → k ≤ n → take {A = ℕ} k (replicate n 0) ≡ re
 take-zeros zero n h = refl
 take-zeros (suc k) zero h = absurd (omega arith)
 take-zeros (suc k) (suc n) h = ap (λ (l : List ℕ). 0 ∷ l) (take-zeros k n (omega arith))
+
+pub pad-length : (n : ℕ) (xs : List ℕ) → length xs ≤ n → length (pad n xs) ≡ n
+pad-length n xs h = simp (length-append, length-replicate) (omega arith)
 
 pub pad-cut : (m n : ℕ) (xs : List ℕ) → length xs ≤ m → m ≤ n → take m (pad n xs) ≡ pad m xs
 pad-cut m n [] few h =

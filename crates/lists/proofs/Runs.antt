@@ -7,6 +7,7 @@
 --     filter-listed   a rising list is what it takes from a run
 --     filter-one      a filter that takes no two numbers of a run takes one at most
 --     rising-same     for code that makes a list: two rising lists of the same numbers are one
+--     rising-whole    for code that leaves a list: a rising list in another that is no longer is that one
 -- Assumes nothing.
 use mathlib.Core.Path.{_≡_, refl, sym, ap, ap₂, _∙_}
 use mathlib.Core.Bool.{Bool, true, false, _&&_, _||_, and-eq-true-iff, false≢true}
@@ -19,7 +20,8 @@ use lib.ListN.{length}
 use borrow.Author.Tests.{le-leb, leb-true, eqb-true, eqb-false, ne-eqb}
 use Rattle.lists.specs.Lists.{listed, keep, filter, run, range, Rising}
 use Rattle.lists.proofs.Tests.{tested, by-order, same-test}
-use Rattle.lists.proofs.Filters.{listed-head, listed-tail, listed-cases, filter-append, filter-same, filter-none, length-kept, length-left}
+use Rattle.lists.proofs.Filters.{listed-head, listed-tail, listed-cases, listed-filter}
+use Rattle.lists.proofs.Filters.{filter-append, filter-same, filter-none, filter-whole, length-kept, length-left}
 
 pub listed-run : (k lo x : ℕ) → listed (run lo k) x ≡ true → (lo ≤ x) × (x < lo + k)
 listed-run zero lo x e = absurd (false≢true e)
@@ -166,3 +168,17 @@ rising-same lo hi c d r w h =
     empty : (f : List ℕ) → Rising lo hi f → suc hi < lo → f ≡ []
     empty [] r h = refl
     empty (x ∷ xs) r h = absurd (omega arith)
+
+pub rising-whole : (lo hi : ℕ) (c d : List ℕ) → Rising lo hi c → Rising lo hi d → ((x : ℕ) → listed c x ≡ true → listed d x ≡ true) → length d ≤ length c
+    → c ≡ d
+rising-whole lo hi c d r w h n = part ∙ filter-whole (listed c) d (omega (arith, ap length part))
+  where
+    both : (t u : Bool) → (t ≡ true → u ≡ true) → t ≡ (t && u)
+    both true u f = sym (f refl)
+    both false u f = refl
+
+    -- c is what d has of it
+    part : c ≡ filter (listed c) d
+    part =
+        rising-same lo hi c (filter (listed c) d) r (rising-filter (listed c) d lo hi w)
+        (λ x. both (listed c x) (listed d x) (h x) ∙ sym (listed-filter (listed c) d x))

@@ -1,9 +1,9 @@
 -- Each answer's reading in the rules' terms (RULES: Refusals) is one-to-one: two answers of one reading coincide.
 --     equation-tight  two outcomes of a promise that is an equation coincide
---     answer-one, counted-one, found-one, written-one, taken-one
+--     answer-one, counted-one, found-one, written-one, taken-one, row-one
 -- Assumes nothing.
 use mathlib.Core.Path.{_≡_, refl, sym, _∙_}
-use Rattle.rule.specs.Refusals.{ofAnswer, ofCounted, ofFound, ofWritten, ofTaken}
+use Rattle.rule.specs.Refusals.{ofAnswer, ofCounted, ofFound, ofWritten, ofTaken, ofRow}
 use Rattle.rule.specs.declared.answers.Answer.{Answer}
 use Rattle.rule.specs.declared.answers.Answer.the-variants as answer
 use Rattle.rule.specs.declared.answers.Counted.{Counted}
@@ -14,6 +14,8 @@ use Rattle.rule.specs.declared.answers.Written.{Written}
 use Rattle.rule.specs.declared.answers.Written.the-variants as written
 use Rattle.rule.specs.declared.answers.Taken.{Taken}
 use Rattle.rule.specs.declared.answers.Taken.the-variants as taken
+use Rattle.rule.specs.declared.answers.RowAnswer.{RowAnswer}
+use Rattle.rule.specs.declared.answers.RowAnswer.the-variants as row
 
 pub equation-tight : {A : Type 0} {promised : A} (x y : A) → x ≡ promised → y ≡ promised → x ≡ y
 equation-tight x y e f = e ∙ sym f
@@ -52,3 +54,9 @@ taken-one taken.Done taken.Done e = refl
 taken-one taken.Done (taken.Refused k c) e = cc
 taken-one (taken.Refused j b) taken.Done e = cc
 taken-one (taken.Refused j b) (taken.Refused k c) e = cc
+
+pub row-one : (x y : RowAnswer) → ofRow x ≡ ofRow y → x ≡ y
+row-one row.Done row.Done e = refl
+row-one row.Done (row.Refused k c) e = cc
+row-one (row.Refused j b) row.Done e = cc
+row-one (row.Refused j b) (row.Refused k c) e = cc

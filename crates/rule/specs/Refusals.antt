@@ -12,6 +12,8 @@ use Rattle.rule.specs.declared.answers.Written.{Written}
 use Rattle.rule.specs.declared.answers.Written.the-variants as written
 use Rattle.rule.specs.declared.answers.Taken.{Taken}
 use Rattle.rule.specs.declared.answers.Taken.the-variants as taken
+use Rattle.rule.specs.declared.answers.RowAnswer.{RowAnswer}
+use Rattle.rule.specs.declared.answers.RowAnswer.the-variants as row
 
 -- a setting outside its rule
 abbrev pub badSettings : ℕ
@@ -49,7 +51,8 @@ badImage = 8
 abbrev pub badLine : ℕ
 badLine = 9
 
--- A call is answered, with what it tells, or refused, with its number and its place: the block for 7, zero elsewhere.
+-- A call is answered, with what it tells, or refused, with its number and its place: the block for 7, the first bad stretch for a row's 2,
+-- zero elsewhere.
 pub data Outcome (Told : Type 0) : Type 0 where
   answered : Told → Outcome Told
   refused : ℕ → ℕ → Outcome Told
@@ -57,6 +60,10 @@ pub data Outcome (Told : Type 0) : Type 0 where
 -- most calls tell whole numbers
 abbrev pub Paper : Type 0
 Paper = Outcome (List ℕ)
+
+abbrev pub isAnswered : {Told : Type 0} → Outcome Told → Bool
+isAnswered (answered told) = true
+isAnswered (refused number place) = false
 
 -- Each case of each answer's enum. The promises are put through these.
 
@@ -81,7 +88,15 @@ abbrev pub ofTaken : Taken → Paper
 ofTaken taken.Done = answered []
 ofTaken (taken.Refused number place) = refused number place
 
--- the answer where the test holds, and otherwise the refusal of this number
+abbrev pub ofRow : RowAnswer → Paper
+ofRow row.Done = answered []
+ofRow (row.Refused number place) = refused number place
+
+-- the answer where the test holds, and otherwise the refusal of this number with this place
+abbrev pub unlessAt : {Told : Type 0} → Bool → ℕ → ℕ → Outcome Told → Outcome Told
+unlessAt true number place answer = answer
+unlessAt false number place answer = refused number place
+
+-- the same with no place
 abbrev pub unless : {Told : Type 0} → Bool → ℕ → Outcome Told → Outcome Told
-unless true number answer = answer
-unless false number answer = refused number 0
+unless test number answer = unlessAt test number 0 answer

@@ -30,3 +30,9 @@ pub enum Taken {
     Done,
     Refused { number: u32, place: u32 },
 }
+
+// A row of stretches: 2 carries a place, which is that of the first bad stretch; it is zero elsewhere.
+pub enum RowAnswer {
+    Done,
+    Refused { number: u32, place: usize },
+}

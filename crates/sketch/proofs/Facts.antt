@@ -10,12 +10,12 @@ use mathlib.Core.Logic.{⊎-elim}
 use mathlib.Core.List.{List, _++_}
 use native.Mathlib.Omega.{arith}
 use lib.Dec.{leb, eqb}
-use lib.ListN.{length, take, drop, replicate, length-append, length-drop, length-replicate, take-append-drop}
+use lib.ListN.{length, take, drop, replicate, length-drop, take-append-drop}
 use lib.Seq.{take-append-seam, drop-append-seam, length-take-le}
 use borrow.Author.Tests.{leb-true, le-leb, lt-leb, eqb-true, eq-eqb}
 use Rattle.lists.specs.Rows.{pad, allZero}
 use Rattle.lists.proofs.Tests.{tested}
-use Rattle.lists.proofs.Places.{zero-facts, zeros-zero}
+use Rattle.lists.proofs.Places.{pad-length, zero-facts, zeros-zero}
 use Rattle.rule.specs.declared.Settings.{Settings}
 use Rattle.rule.specs.Rule.{isGood, top}
 use Rattle.rule.proofs.Facts.{each, good-facts, facts-good}
@@ -68,7 +68,7 @@ unfolding sketchAt cellsOf
 made-tests s level xs few = (
   take-append-seam xs (replicate (504 - length xs) 0),
   rw (drop-append-seam xs (replicate (504 - length xs) 0)) (zeros-zero (504 - length xs)),
-  length-append xs (replicate (504 - length xs) 0) ∙ (rw (length-replicate {A = ℕ} (504 - length xs) 0) (omega arith)),
+  pad-length 504 xs few,
 )
 
 pub made-count : (k : Sketch) → k ≡ sketchAt (k .settings) (k .level) (cellsOf k) → k .count ≡ length (cellsOf k)

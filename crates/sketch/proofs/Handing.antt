@@ -27,7 +27,7 @@ use Rattle.find.specs.Finding.{inRange}
 use Rattle.find.proofs.Checks.{unless-told}
 use Rattle.sketch.specs.declared.Sketch.{Sketch}
 use Rattle.sketch.specs.declared.Changed.{Changed}
-use Rattle.sketch.specs.Settling.{Keeps, keptIn, KeptIn}
+use Rattle.sketch.specs.Settling.{Keeps, keptIn, KeptRow}
 use Rattle.sketch.specs.Sketches.{held, sketchAt, cellsOf, keptOf, isSketch, Sound, sketchFrom, add, merge}
 use Rattle.sketch.specs.Calls.{openOn, addWhen, addOn, mergeWhen, mergeOn, sameSettings, doneWith, refusedWith, Hands}
 use Rattle.sketch.proofs.Facts.{same-facts, count-few}
@@ -108,13 +108,17 @@ unfolding mergeOn
 merge-told {mine} {its} j k e f q =
     q ∙ ap (λ (t : Bool). mergeWhen t (j .settings) its (k .settings)) e ∙ ap (λ (t : Bool). mergeWhen (isSketch j) (j .settings) t (k .settings)) f
 
--- a sketch's row holds cells kept at its level
-pub row-kept : (k : Sketch) → length (k .cells) ≡ 504 → Sound k → KeptIn (k .settings) (keptOf k) (k .cells)
-unfolding cellsOf
+-- a sketch's row holds cells kept at its level, and zeros after them
+pub row-kept : (k : Sketch) → length (k .cells) ≡ 504 → Sound k → KeptRow (k .settings) (keptOf k) (k .cells)
+unfolding cellsOf sketchAt
 row-kept k e w =
     record {
-      within = omega (arith, count-few k w);
-      kept = record { good = w .settings; low = w .level; few = w .few; rise = w .rise; pass = w .pass };
+      held =
+          record {
+            within = omega (arith, count-few k w);
+            kept = record { good = w .settings; low = w .level; few = w .few; rise = w .rise; pass = w .pass };
+          };
+      padded = ap (λ (v : Sketch). v .cells) (w .made);
     }
 
 pub keeps-sketch : {s : Settings} {X : Cells} {here level count : ℕ} {row : List ℕ} → Keeps s X here 504 level count row

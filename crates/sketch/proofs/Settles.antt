@@ -1,7 +1,9 @@
 -- What is kept of a set, as the code comes to it.
 --     zeros-sized      the row to fill
 --     keeps-stored, stored-few    the sample stored at the lowest level
+--     keeps-whole      a row with all of another's places stored in it keeps the same
 --     keeps-agree      two sets that agree on what passes keep the same
+--     settle-hits      how many of the range pass is a small number
 --     settle-now, settle-not    whether all fits at this level, by how many there are
 --     settle-room, settle-next, settle-fits    and otherwise there is a level above it, from which the search goes on
 -- Assumes nothing.
@@ -14,11 +16,13 @@ use lib.ListN.{length, replicate, length-replicate}
 use borrow.Author.Tests.{le-leb, lt-leb}
 use Rattle.lists.specs.Rows.{placed, Stored}
 use Rattle.lists.proofs.Places.{placed-pad}
+use Rattle.lists.proofs.Stores.{stored-whole}
 use Rattle.rule.specs.declared.Settings.{Settings}
 use Rattle.rule.specs.Cells.{Cells}
 use Rattle.rule.specs.Rule.{Good, top}
 use Rattle.rule.specs.Samples.{sample, fits, lowest, rangeCount}
 use Rattle.rule.proofs.Samples.{Agree, sample-same, fits-few, lowest-from, lowest-fits, lowest-step, lowest-same, below-top}
+use Rattle.find.proofs.Counting.{count-few}
 use Rattle.sketch.specs.Settling.{allOf, Present, Keeps}
 use Rattle.sketch.proofs.Around.{fits-present}
 
@@ -37,6 +41,11 @@ module _ {s : Settings} (X : Cells) (level : ℕ) {count : ℕ} {out row : List 
   pub stored-few : Good s → fits s X level ≡ true → count ≤ 504
   stored-few w e = omega (arith, g .next-place, fits-few s X level e, w .capacity-high)
 
+pub keeps-whole : {s : Settings} {X : Cells} {here places level count next : ℕ} {row out after : List ℕ} → Keeps s X here places level count out
+    → length row ≤ length out → Stored row 0 out next after
+    → Keeps s X here places level count after
+keeps-whole k h g = record { lowest-level = k .lowest-level; number = k .number; contents = stored-whole h g ∙ k .contents }
+
 pub keeps-agree : {s : Settings} {here places level count : ℕ} {row : List ℕ} (X Y : Cells) → Agree s here X Y → Keeps s X here places level count row
     → Keeps s Y here places level count row
 keeps-agree {s} {here} {places} {level} X Y a k =
@@ -49,6 +58,9 @@ keeps-agree {s} {here} {places} {level} X Y a k =
 
 module _ {s : Settings} {level : ℕ} {front back : List ℕ} {lo hi : ℕ} (w : Present s level front back lo hi) where
   module _ {hits : ℕ} (e : hits ≡ rangeCount s level lo hi) where
+    pub settle-hits : hits ≤ s .n
+    settle-hits = omega (arith, count-few s level lo hi, w .around .one, w .around .last)
+
     pub settle-now : hits + length front + length back ≤ s .capacity → fits s (allOf front back lo hi) level ≡ true
     settle-now h = fits-present w ∙ le-leb (rangeCount s level lo hi + length front + length back) (s .capacity) (omega arith)
 

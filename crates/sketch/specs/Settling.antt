@@ -9,6 +9,7 @@ use Rattle.lists.specs.Rows.{pad, Stored}
 use Rattle.rule.specs.declared.Settings.{Settings}
 use Rattle.rule.specs.Cells.{Cells, _∪_, interval}
 use Rattle.rule.specs.Rule.{Good, passes, top}
+use Rattle.rows.specs.Walked.{cellsBelow}
 use Rattle.sketch.specs.declared.settle.Kept.{Kept}
 use Rattle.rule.specs.Samples.{sample, fits, lowest, rangeCount}
 
@@ -27,6 +28,13 @@ pub record AddsTo (s : Settings) (level : ℕ) (cells : List ℕ) (lo hi : ℕ) 
   pub up : lo ≤ hi
   pub last : hi ≤ s .n
 
+-- besides, where lo..hi cuts the cells: i lie before lo and j up to hi; and how many of lo..hi pass
+pub record CutAt (s : Settings) (level : ℕ) (cells : List ℕ) (lo hi i j hits : ℕ) : Type 0 where
+  pub adds : AddsTo s level cells lo hi
+  pub before : i ≡ length (filter (cellsBelow lo) cells)
+  pub through : j ≡ length (filter (cellsBelow (hi + 1)) cells)
+  pub counted : hits ≡ rangeCount s level lo hi
+
 -- the cells kept in a row: its first ones
 abbrev pub keptIn : Kept → List ℕ → List ℕ
 keptIn k row = take (k .count) row
@@ -35,6 +43,11 @@ keptIn k row = take (k .count) row
 pub record KeptIn (s : Settings) (k : Kept) (row : List ℕ) : Type 0 where
   pub within : k .count ≤ length row
   pub kept : KeptAt s (k .level) (keptIn k row)
+
+-- and nothing else does: zeros follow them, up to 504 places
+pub record KeptRow (s : Settings) (k : Kept) (row : List ℕ) : Type 0 where
+  pub held : KeptIn s k row
+  pub padded : row ≡ pad 504 (keptIn k row)
 
 -- what is kept of a set, where no level below `here` may be used:
 -- the lowest level at which it fits, and its sample there, in a row of so many places with zeros after it

@@ -143,8 +143,8 @@ impl Sketch {
         ensures { λ r. ⌜ r ≡ add self lo hi ⌝ }
     {
         let settings = self.settings;
-        let mut cells = [0u32; PLACES];
-        let kept = settle::add_to(&mut cells, settings, self.kept(), &self.cells, lo, hi);
+        let mut cells = self.cells;
+        let kept = settle::add_to(&mut cells, settings, self.kept(), lo, hi);
         Sketch {
             settings,
             level: kept.level,

@@ -1,5 +1,5 @@
 // What adding and merging come down to: cells kept at a level, and a range. No sketch is known here:
-// the cells are lent, and what is kept goes into a row that is lent as well.
+// the cells are lent. Adding works on their row; what a merge keeps goes into a row lent as well.
 ghost use mathlib.Core.Path.{_≡_};
 ghost use Prim.Native.Nat.{_+_, _-_, _≤_, max};
 ghost use lib.ListN.{length, take, replicate};
@@ -9,8 +9,8 @@ ghost use mathlib.Core.Bool.{true};
 ghost use Rattle.find.specs.Finding.{inRange};
 ghost use Rattle.rule.specs.Cells.{_∪_, interval};
 ghost use Rattle.rule.specs.Rule.{Good, passes};
-ghost use Rattle.rule.specs.Samples.{sample, fits};
-ghost use Rattle.sketch.specs.Settling.{allOf, Present, Gathers, Alone, Thins, KeptAt, AddsTo, Keeps, keptIn, KeptIn};
+ghost use Rattle.rule.specs.Samples.{sample, fits, rangeCount};
+ghost use Rattle.sketch.specs.Settling.{allOf, Present, Gathers, Alone, Thins, KeptAt, CutAt, Keeps, keptIn, KeptIn, KeptRow};
 use crate::PLACES;
 use crate::levels::above;
 use rule::Settings;
@@ -61,8 +61,8 @@ fn gathered(
     store_at(out, second, settings, own, level, back)
 }
 
-// What is kept of two rows, all of whose cells pass at the level, and of lo..hi between them. At
-// this level no cell need be hashed; only for a higher one are they.
+// What is kept of two rows, all of whose cells pass at the level, and of lo..hi between them, of
+// which `hits` pass there. At this level no cell need be hashed; only for a higher one are they.
 fn settled(
     out: &mut [u32],
     settings: Settings,
@@ -71,12 +71,12 @@ fn settled(
     back: &[u32],
     lo: u32,
     hi: u32,
+    hits: usize,
 ) -> Kept
-    requires { ⌜ Present settings level (now front) (now back) lo hi × (now out ≡ replicate 504 0) ⌝ }
+    requires { ⌜ Present settings level (now front) (now back) lo hi × (hits ≡ rangeCount settings level lo hi) × (now out ≡ replicate 504 0) ⌝ }
     ensures { λ r. ⌜ Keeps settings (allOf (now (front .entry)) (now (back .entry)) lo hi) level 504 (r .level) (r .count) (now (out .exit)) ⌝ }
 {
     let capacity = settings.capacity as usize;
-    let hits = find::count_in(settings, level, lo, hi) as usize;
     let many = hits + front.len() + back.len();
     if many <= capacity {
         let count = gathered(out, settings, level, level, front, back, lo, hi, hits) as u32;
@@ -88,7 +88,8 @@ fn settled(
     Kept { level: l, count }
 }
 
-// Adds lo..hi to the cells kept at a level, into a row of zeros.
+// Adds lo..hi to the cells kept at a level, into a row of zeros. The cells before place i lie before
+// lo, those from place j on after hi, and `hits` of lo..hi pass.
 fn add_cells(
     out: &mut [u32],
     settings: Settings,
@@ -96,29 +97,47 @@ fn add_cells(
     cells: &[u32],
     lo: u32,
     hi: u32,
+    i: usize,
+    j: usize,
+    hits: usize,
 ) -> Kept
-    requires { ⌜ AddsTo settings level (now cells) lo hi × (now out ≡ replicate 504 0) ⌝ }
+    requires { ⌜ CutAt settings level (now cells) lo hi i j hits × (now out ≡ replicate 504 0) ⌝ }
     ensures { λ r. ⌜ Keeps settings (listed (now (cells .entry)) ∪ interval lo hi) level 504 (r .level) (r .count) (now (out .exit)) ⌝ }
 {
-    let i = rows::below(cells, lo);
-    let j = rows::below(cells, hi + 1);
-    settled(out, settings, level, &cells[..i], &cells[j..], lo, hi)
+    settled(out, settings, level, &cells[..i], &cells[j..], lo, hi, hits)
 }
 
-// The same for what is kept in a row.
-pub fn add_to(
-    out: &mut [u32],
-    settings: Settings,
-    kept: Kept,
-    row: &[u32],
-    lo: u32,
-    hi: u32,
-) -> Kept
-    requires { ⌜ KeptIn settings kept (now row) × (inRange settings lo hi ≡ true) × (now out ≡ replicate 504 0) ⌝ }
-    ensures { λ r. ⌜ Keeps settings (listed (keptIn kept (now (row .entry))) ∪ interval lo hi) (kept .level) 504 (r .level) (r .count) (now (out .exit)) ⌝ }
+// The same for what is kept in a row, in place. Where none of lo..hi passes nothing changes, and the
+// row isn't searched. The cells kept in lo..hi pass, so nothing changes either where as many of lo..hi
+// pass as are kept there.
+pub fn add_to(cells: &mut [u32], settings: Settings, kept: Kept, lo: u32, hi: u32) -> Kept
+    requires { ⌜ KeptRow settings kept (now cells) × (inRange settings lo hi ≡ true) ⌝ }
+    ensures { λ r. ⌜ Keeps settings (listed (keptIn kept (now (cells .entry))) ∪ interval lo hi) (kept .level) 504 (r .level) (r .count) (now (cells .exit)) ⌝ }
 {
+    let hits = find::count_in(settings, kept.level, lo, hi) as usize;
+    if hits == 0 {
+        return kept;
+    }
     let n = kept.count as usize;
-    add_cells(out, settings, kept.level, &row[..n], lo, hi)
+    let i = rows::below(&cells[..n], lo);
+    let j = rows::below(&cells[..n], hi + 1);
+    if i + hits == j {
+        return kept;
+    }
+    let mut out = [0u32; PLACES];
+    let next = add_cells(
+        &mut out,
+        settings,
+        kept.level,
+        &cells[..n],
+        lo,
+        hi,
+        i,
+        j,
+        hits,
+    );
+    rows::stores::store(cells, 0, &out);
+    next
 }
 
 // Of the first `many` cells of a row, all of which pass at the level, keeps what fits, in place.

@@ -1,13 +1,15 @@
 -- `host::add_in` meets its contract. Assumes nothing.
-use mathlib.Core.Path.{_≡_, refl, sym, ap, _∙_}
+use mathlib.Core.Path.{_≡_, sym, ap, _∙_}
 use mathlib.Core.List.{[]}
 use denote.Ref.{now}
+use Rattle.rule.specs.declared.Settings.{Settings}
 use Rattle.rule.specs.Refusals.{answered, ofAnswer}
+use Rattle.find.specs.Finding.{inRange}
 use Rattle.sketch.specs.Calls.{addWhen}
+use Rattle.sketch.proofs.Facts.{sketch-facts}
 use Rattle.sketch.proofs.Handing.{add-granted}
-use Rattle.host.specs.Crossing.{sketchRow}
-use Rattle.host.proofs.Crossings.{row-kept-in}
-use Rattle.host.proofs.Outcomes.{gives-refused, gives-done, adds-told, adds-kept}
+use Rattle.host.proofs.Crossings.{settings-of-row}
+use Rattle.host.proofs.Outcomes.{gives-refused, gives-done, adds-told}
 use borrow.Author.Needs.{needs}
 use Rattle.host.proofs.add_in.Statement.{statement}
 use Rattle.host.proofs.add_in.Tie as tie
@@ -42,35 +44,17 @@ enum-known-answer c = search needs
 enum-told : tie.Need-enum-told
 enum-told c = search needs
 
-slice-aggregate-add-to : tie.Need-slice-aggregate-add-to
-slice-aggregate-add-to c = search needs
-
-kept-in-requires : tie.Need-kept-in-requires
-kept-in-requires c κs = search needs
-
-sub-add-to : tie.Need-sub-add-to
-sub-add-to c = search needs
-
-part-add-to-start : tie.Need-part-add-to-start
-part-add-to-start c = search needs
-
-part-add-to-end : tie.Need-part-add-to-end
-part-add-to-end c = search needs
-
-add-to-requires : tie.Need-add-to-requires
-add-to-requires c κs =
-    let told = c .before .before .before .before .before in
+add-known-requires : tie.Need-add-known-requires
+add-known-requires c κs =
+    let told = c .before in
     let k = known (tested told) in
     let b = start k in
-    let g = add-granted _ (k .settings-in .result) (b .args .lo) (b .args .hi) (done told) in
-    let w = row-kept-in (now (b .args .row)) _ (b .pre) (k .settings-in .ensures) (sym (tested told .is-sketch .ensures) ∙ g .0) in
-    (rw (c .before .before .kept-in .ensures) w, g .1, refl)
-
-slice-aggregate-put-sketch : tie.Need-slice-aggregate-put-sketch
-slice-aggregate-put-sketch c = search needs
-
-put-sketch-requires : tie.Need-put-sketch-requires
-put-sketch-requires c κs = search needs
+    let row = now (b .args .row) in
+    let g = add-granted _ (k .settings-in .result) (b .args .lo) (b .args .hi) (done told) in (
+      b .pre,
+      sketch-facts _ (sym (tested told .is-sketch .ensures) ∙ g .0),
+      ap (λ (t : Settings). inRange t (b .args .lo) (b .args .hi)) (settings-of-row row ∙ sym (k .settings-in .ensures)) ∙ g .1,
+    )
 
 same-length : tie.Need-same-length
 same-length c = search needs
@@ -88,14 +72,12 @@ same-length-2 c = search needs
 
 returns-2 : tie.Need-returns-2
 returns-2 c =
-    let told = c .before .before .before .before .before .before .before .before .before .before .before .before in
+    let told = c .before .before .before .before in
     let t = tested told in
-    let s = known t .settings-in .ensures in
-    let a = start (known t) .args in
-    let row = now (a .row) in
-    let heads = c .before .before .before .before .before .before .before .before .before in
-    let kept = adds-kept row s (heads .kept-in .ensures) (a .lo) (a .hi) (c .before .before .before .before .before .before .add-to .ensures) in
-    gives-done _ _ (adds-told row s (t .is-sketch .ensures) (a .lo) (a .hi) (done told)) (c .before .before .put-sketch .ensures ∙ ap sketchRow kept)
+    let k = known t in
+    let a = start k .args in
+    gives-done _ _ (adds-told (now (a .row)) (k .settings-in .ensures) (t .is-sketch .ensures) (a .lo) (a .hi) (done told))
+    (c .before .before .add-known .ensures)
 
 pub add-in-spec : {M : Type 1} → statement M
 add-in-spec =
@@ -106,14 +88,7 @@ add-in-spec =
     add-answer-requires
     enum-known-answer
     enum-told
-    slice-aggregate-add-to
-    kept-in-requires
-    sub-add-to
-    part-add-to-start
-    part-add-to-end
-    add-to-requires
-    slice-aggregate-put-sketch
-    put-sketch-requires
+    add-known-requires
     same-length
     returns
     same-length-2

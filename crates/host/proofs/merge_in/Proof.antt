@@ -101,7 +101,7 @@ merge-to-requires c κs =
     let g = both told in
     let m = row-kept-in (now (b .args .row)) _ (b .pre .0) (k .settings-in .ensures) (sym (mine o .is-sketch .ensures) ∙ g .0) in
     let i = row-kept-in (now (b .args .other)) _ (b .pre .1) (g .2 ∙ o .settings-in2 .ensures) (sym (o .before .is-sketch2 .ensures) ∙ g .1) in
-    (rw (c .before .before .before .kept-in2 .ensures) m, rw (c .before .before .before .before .before .before .kept-in .ensures) i, refl)
+    (rw (c .before .before .before .kept-in2 .ensures) (m .held), rw (c .before .before .before .before .before .before .kept-in .ensures) (i .held), refl)
 
 array-share-prefix-out : tie.Need-array-share-prefix-out
 array-share-prefix-out c = search needs

@@ -1,11 +1,11 @@
 -- `lent::moved_on` meets its contract: a walk of its MIR, by hand. The walker is a local, which is lent for a lifetime made for the call of `next`;
 -- the lifetime ends, and the local comes back at the value that `next` left.
 -- All that the proof knows of `next` is that it meets its contract. Assumes nothing.
-use Rattle.lent.proofs.Names.{refl, [], _∷_, URA, fullShare, named, Val, SProp, ent, emp, via, fst∗, GName, ftrue, flent, fat, Memory, Routine, Heap}
-use Rattle.lent.proofs.Names.{Calls, Loops, WpFn, Tables, Atoms, Fun, givenOf, tables, tablesOf, Given, ‵, some, later, _⊛_, _$_, _∵_, !, qed, by}
-use Rattle.lent.proofs.Names.{move, keep, use1, use3, split, join, pick, fjoin, suffices, frame, await, done, look, init, forget, stop, from, load}
+use Rattle.lent.proofs.Names.{refl, [], _∷_, URA, fullShare, Val, SProp, ent, emp, via, fst∗, ftrue, fat, Memory, Routine, Heap}
+use Rattle.lent.proofs.Names.{Calls, Loops, WpFn, Tables, Atoms, Fun, givenOf, tables, tablesOf, Given, ‵, _$_, _∵_, !, qed, by}
+use Rattle.lent.proofs.Names.{move, keep, use1, split, join, fjoin, suffices, frame, done, look, init, forget, stop, from, load}
 use Rattle.lent.proofs.Names.{addr, agg, of-opd, and-then, no-more, assigns, land, returns, enter, alloc1, alloc0, params1, pass1, pass0, free1, free0}
-use Rattle.lent.proofs.Names.{Body, lft-new, lft-end, FmC, fmOf, WpFn-mono, owns, mem, cellAt, partAt, lends-ref, ref-back, plain, nothing, onEntry}
+use Rattle.lent.proofs.Names.{FmC, fmOf, WpFn-mono, owns, cellAt, plain, nothing, onEntry}
 use Rattle.lent.proofs.Names.{Meets, tripleOf, Triple, entered, cited, says, Stays, stay-dropped, walkOf, goes-dropped, Walks, ends-at, walked}
 use Rattle.lent.proofs.Names.{walk-meets, yes}
 use denote.Struct.Laws as LL
@@ -14,9 +14,9 @@ use Rattle.find.specs.declared.Walker.{Walker}
 use Rattle.find.specs.declared.Stepped.{Stepped}
 use Rattle.find.specs.Walking.{Steps}
 use Rattle.lent.proofs.Lendings.{handed-back}
-use Rattle.lent.proofs.Walk.{Ok, vals, had, lies-in, lies-out}
+use Rattle.lent.proofs.Walk.{Ok, vals, had, lends-cell, back-cell}
 use Rattle.lent.proofs.Data.{walker, stepped, found}
-use Rattle.lent.proofs.Loans.{Own, Next, calls-next}
+use Rattle.lent.proofs.Loans.{Next, calls-next}
 use Rattle.find.proofs.Walker as T
 use Rattle.find.proofs.Walker.Laws as T′
 use Rattle.find.proofs.Stepped as R
@@ -61,19 +61,13 @@ module _ {M : Type 1} (𝓤 : URA M) (H : Heap 𝓤) (A : Atoms 𝓤) (W : Given
         assigns ! (of-opd ! (load ! (from ! (stop !)) (look ! 8 refl))) (from ! (stop !)) (init ! 6 refl (walker .lawful 𝓤 H A W .typed w _ ok .0)) $
         assigns ! (addr ! (from ! (stop !))) (from ! (stop !)) (init ! 2 refl (tt, tt)) $
         -- a lifetime is made, and the local is lent for it
-        lft-new ! tt (λ ν. move ! (7 ∷ []) $
-        use1 W (‵ (cellAt fullShare (T.the-row .mir) (vals walker w) l₂ 0)) (W .laws .at-raw fullShare T′.mir l₂ 0 (walker .val w)) $
-        lies-in ! walker w ok l₂ 0 $
-        use1 W (later (some (λ (γ : GName). ‵ (Own (ν ∷ []) l₂ 0 γ w) ⊛ ‵ (flent (ν ∷ []) (Body (mem T.the-row) l₂ 0 γ)))))
-        (lends-ref 𝓤 H A W T.the-row (named 0) (ν ∷ []) w l₂ 0) $
-        await ! tt $ pick ! (λ γ. split ! $ nothing ! $ move ! (3 ∷ 0 ∷ []) $ join ! $ join ! $
+        move ! (6 ∷ []) $ use1 W (‵ (cellAt fullShare (T.the-row .mir) (vals walker w) l₂ 0)) (W .laws .at-raw fullShare T′.mir l₂ 0 (walker .val w)) $
+        lends-cell ! tt walker w ok l₂ 0 (λ ν γ. nothing ! $ move ! (1 ∷ 0 ∷ []) $ join ! $ join ! $
         -- [the token and the loan; what is lent; _5; …; _4; …; _3; …; that _2 dies; _1; …; _0; …]: `_3 = next(_4)`
         calls-next 𝓤 H A at-mem run ! fm known (ν ∷ []) fullShare l₂ 0 γ w (and-then ! (load ! (from ! (stop !)) (look ! 4 refl)) (no-more !)) (λ r v e ok-r.
         land ! (from ! (stop !)) (init ! 7 refl (found .lawful 𝓤 H A W .typed r _ ok-r .0)) $
         -- [the last value; the token; what is lent; _5; …]: the lifetime ends, and the local comes back at the last value
-        move ! (1 ∷ []) $ split ! $ lft-end ! tt $ move ! (0 ∷ 3 ∷ 2 ∷ []) $
-        use3 W (later (‵ (partAt T.the-row fullShare v l₂ 0))) (ref-back 𝓤 H A W T.the-row (ν ∷ []) γ v l₂ 0) $
-        await ! tt $ lies-out ! walker v l₂ 0 (λ ok′.
+        move ! (1 ∷ []) $ split ! $ move ! (0 ∷ 2 ∷ 3 ∷ []) $ back-cell ! tt walker v l₂ 0 (λ ok′.
         use1 W (‵ (fat fullShare T′.mir l₂ 0 (walker .val v))) (W .laws .raw-at fullShare T′.mir l₂ 0 (walker .val v)) $
         -- [_2; true; _5; …; _4; …; _3; …; that _2 dies; _1; …; _0; …]: `_5 = _2`, and `_0 = Stepped { _3, _5 }`
         assigns ! (of-opd ! (load ! (from ! (stop !)) (look ! 0 refl))) (from ! (stop !)) (init ! 2 refl (walker .lawful 𝓤 H A W .typed v _ ok′ .0)) $
@@ -81,7 +75,7 @@ module _ {M : Type 1} (𝓤 : URA M) (H : Heap 𝓤) (A : Atoms 𝓤) (W : Given
         (from ! (stop !)) (init ! 11 refl (stepped .lawful 𝓤 H A W .typed (back r v) _ (back-ok r v ok-r ok′) .0)) $
         returns ! (look ! 11 refl) $ forget ! 0 refl $ forget ! 2 refl $ forget ! 4 refl $ forget ! 6 refl $ forget ! 9 refl $ forget ! 11 refl $
         move ! (11 ∷ 12 ∷ 9 ∷ 10 ∷ 0 ∷ 8 ∷ 6 ∷ 7 ∷ 4 ∷ 5 ∷ 2 ∷ 3 ∷ []) $ free1 ! $ free1 ! $ free1 ! $ free1 ! $ free1 ! $ free1 ! $ free0 ! $
-        keep ! [] $ by ! (exits (back r v) (handed-back w v r e) (back-ok r v ok-r ok′))))))))))))
+        keep ! [] $ by ! (exits (back r v) (handed-back w v r e) (back-ok r v ok-r ok′)))))))))))
 
 module _ {M : Type 1} (𝓤 : URA M) (H : Heap 𝓤) (A : Atoms 𝓤) (W : Given 𝓤 H A) (at-mem : Memory → SProp 𝓤) (run : Routine → Fun 𝓤)
     (𝓣 : Tables 𝓤 H) (known : Triple 𝓤 (𝓣 .C #g) (Next 𝓤 H A at-mem run)) where

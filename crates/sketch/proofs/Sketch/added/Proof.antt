@@ -1,5 +1,5 @@
 -- `sketch::Sketch::added` meets its contract. Assumes nothing.
-use mathlib.Core.Path.{_≡_, refl}
+use mathlib.Core.Path.{_≡_}
 use lib.ListN.{length}
 use Rattle.sketch.proofs.Handing.{row-kept, kept-add}
 use borrow.Author.Needs.{needs}
@@ -14,15 +14,15 @@ kept-requires c κs = search needs
 
 add-to-requires : tie.Need-add-to-requires
 add-to-requires c κs =
-    let start = c .before .before .before .before .before .before in
-    let k = start .args .t1 in
+    let start = c .before .before .before .before in
+    let k = start .args .self in
     let e : length (k .cells) ≡ 504 = search needs in
-    (rw (c .before .before .before .kept .ensures) (row-kept k e (start .pre .0)), start .pre .1, refl)
+    (rw (c .kept .ensures) (row-kept k e (start .pre .0)), start .pre .1)
 
 returns : tie.Need-returns
 returns c =
-    let a = c .before .before .before .before .before .before .before .before .args in
-    kept-add (a .t1) (a .lo) (a .hi) (rw (c .before .before .before .before .before .kept .ensures) at (c .before .add-to .ensures))
+    let a = c .before .before .before .before .before .before .args in
+    kept-add (a .self) (a .lo) (a .hi) (rw (c .before .before .kept .ensures) at (c .before .add-to .ensures))
 
 pub added-spec : {M : Type 1} → statement M
 added-spec = tie.close (tie.spec slice-aggregate-add-to kept-requires add-to-requires returns)

@@ -31,8 +31,8 @@ merge-to-requires c κs =
     let j = start .args .t2 in
     let e : length (k .cells) ≡ 504 = search needs in
     let f : length (j .cells) ≡ 504 = search needs in
-    let mine : KeptIn (k .settings) (keptOf k) (k .cells) = row-kept k e (start .pre .0) in
-    let its : KeptIn (k .settings) (keptOf j) (j .cells) = rw (start .pre .2) (row-kept j f (start .pre .1)) in
+    let mine : KeptIn (k .settings) (keptOf k) (k .cells) = row-kept k e (start .pre .0) .held in
+    let its : KeptIn (k .settings) (keptOf j) (j .cells) = rw (start .pre .2) (row-kept j f (start .pre .1) .held) in
     let kept = c .before .before .before .before .before .before in
     (rw (kept .kept2 .ensures) mine, rw (kept .before .before .kept .ensures) its, refl)
 
