@@ -5,10 +5,12 @@ int main(void)
 {
     // n, p, a, b, capacity: p is a prime, and a and b were drawn once for all handhelds
     const uint32_t settings[POT_SETTINGS] = {1000000, 15485863, 9245170, 3021377, 504};
+    // what the first handheld queued while its link was down
+    const struct pot_stretch queued[] = {{12, 480}, {2001, 2020}};
     uint32_t one[POT_SKETCH], two[POT_SKETCH], back[POT_SKETCH];
     uint8_t image[POT_IMAGE];
 
-    if (pot_open(settings, one) || pot_add(one, 12, 480) || pot_add(one, 2001, 2020))
+    if (pot_open(settings, one) || pot_add_row(one, queued, 2).number != POT_DONE)
         return 1;
     struct pot_estimated seen = pot_estimate(one);
     printf("one handheld saw %s%.0f cells\n", seen.exact ? "" : "about ", seen.value);

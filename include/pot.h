@@ -7,10 +7,12 @@
  *     {
  *         // n, p, a, b, capacity: p is a prime, and a and b were drawn once for all handhelds
  *         const uint32_t settings[POT_SETTINGS] = {1000000, 15485863, 9245170, 3021377, 504};
+ *         // what the first handheld queued while its link was down
+ *         const struct pot_stretch queued[] = {{12, 480}, {2001, 2020}};
  *         uint32_t one[POT_SKETCH], two[POT_SKETCH], back[POT_SKETCH];
  *         uint8_t image[POT_IMAGE];
  *
- *         if (pot_open(settings, one) || pot_add(one, 12, 480) || pot_add(one, 2001, 2020))
+ *         if (pot_open(settings, one) || pot_add_row(one, queued, 2).number != POT_DONE)
  *             return 1;
  *         struct pot_estimated seen = pot_estimate(one);
  *         printf("one handheld saw %s%.0f cells\n", seen.exact ? "" : "about ", seen.value);
@@ -41,16 +43,19 @@
  *                 rising, with zeros after them
  *     walker      n, p, a, b, capacity, level, position, hi
  *
+ * A stretch of cells is its first and its last, lo and hi; pot_add_row is lent a row of them.
+ *
  * Every call answers, whatever numbers and bytes are lent: a row that was never opened, or was tampered
  * with, is refused. A call's number is POT_DONE where it is answered, and otherwise a refusal below. Calls
  * with values return a struct with the number first; its values are 0 with a refusal, but for the block
- * that POT_BAD_CHECK names. A refused call changes no lent memory at all, but for the row that opening or
- * reading hands back, which is then all zeros.
+ * that POT_BAD_CHECK names and the place in a row of stretches that POT_BAD_RANGE names. A refused call
+ * changes no lent memory at all, but for the row that opening or reading hands back, which is then all
+ * zeros.
  *
- * The caller sees to the memory: no pointer is NULL, each points to as many numbers or bytes as the
- * declaration or the length beside it says, and what one call writes overlaps nothing else lent to
- * the same call. To merge a sketch with itself, lend a copy. Calls on different memory may run on
- * different threads at once.
+ * The caller sees to the memory: no pointer is NULL, not even to an empty row; each points to as many
+ * numbers, bytes or stretches as the declaration or the length or count beside it says; and what one call
+ * writes overlaps nothing else lent to the same call. To merge a sketch with itself, lend a copy. Calls on
+ * different memory may run on different threads at once.
  *
  * Choosing the settings. n is the number of the last cell, and capacity how many cells a sketch keeps at
  * most: the more, the closer the estimate. p, a and b choose the sample. Take a prime p from 10n to 20n,
@@ -59,8 +64,9 @@
  * above level 0 misleads: with a = 1, say, the cells of a short stretch pass all together or not at all.
  *
  * What a call costs. No heap, no memory of its own, no system call. POT_STACK bytes of stack do for every
- * call; measured on x86-64 (tests/stack.c), pot_merge uses under 5,000, pot_add under 3,600 and every
- * other call under 1,024. The library is under 20,000 bytes of code and constants.
+ * call; measured on x86-64 (tests/stack.c), pot_merge uses under 5,000, pot_add and pot_add_row under 3,600,
+ * however long the row, and every other call under 1,024. The library is under 20,000 bytes of code and
+ * constants.
  */
 #ifndef POT_H
 #define POT_H
@@ -111,6 +117,15 @@ extern "C" {
 #define POT_BAD_CHECK 7    /* a block's check is wrong */
 #define POT_BAD_IMAGE 8    /* any other fault of an image */
 
+struct pot_stretch {
+    uint32_t lo, hi;
+};
+
+struct pot_placed {
+    uint32_t number;
+    size_t place; /* with POT_BAD_RANGE: the first bad stretch of the row, counted from 0 */
+};
+
 struct pot_told {
     uint32_t number;
     uint32_t value; /* how many; or the cell found: no cell is 0, so 0 where there is none */
@@ -146,6 +161,12 @@ uint32_t pot_open(const uint32_t settings[POT_SETTINGS], uint32_t sketch[POT_SKE
  * level rises as far as it must.
  * Refused: POT_NOT_ONE, POT_BAD_RANGE, in this order, and the sketch is unchanged. */
 uint32_t pot_add(uint32_t sketch[POT_SKETCH], uint32_t lo, uint32_t hi);
+
+/* Adds a row of stretches: the sketch becomes what pot_add of one after the other, in their order, would
+ * make of it, but is tested once. An empty row adds nothing.
+ * Refused: POT_NOT_ONE, POT_BAD_RANGE for the first bad stretch, in this order, and the sketch is
+ * unchanged: nothing of the row is added. */
+struct pot_placed pot_add_row(uint32_t sketch[POT_SKETCH], const struct pot_stretch *row, size_t count);
 
 /* Adds what the other sketch stands for. All five settings must be equal.
  * Refused: POT_NOT_ONE for either, POT_UNEQUAL, in this order, and the sketch is unchanged. */

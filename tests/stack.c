@@ -9,10 +9,13 @@
 #define BYTES 65536
 #define PAINT 0xA5
 #define ROUNDS 20000
+#define LONGEST 1000
 
 static _Alignas(16) unsigned char painted[BYTES];
 static ucontext_t home, there;
 static uint32_t settings[POT_SETTINGS], one[POT_SKETCH], two[POT_SKETCH], walker[POT_WALKER];
+static struct pot_stretch row[LONGEST];
+static size_t count;
 static uint8_t image[POT_IMAGE];
 static size_t length;
 static uint32_t level, lo, hi;
@@ -37,9 +40,26 @@ static void draw_settings(void)
     hi = lo + draw(settings[POT_N] - lo + 1);
 }
 
+// A stretch of a few cells, or of any length.
+static struct pot_stretch draw_stretch(void)
+{
+    uint32_t from = 1 + draw(settings[POT_N]), longest = draw(2) ? 600 : settings[POT_N];
+    uint32_t rest = settings[POT_N] - from + 1;
+    return (struct pot_stretch){from, from + draw(rest < longest ? rest : longest)};
+}
+
+// A short row, or one time in a hundred the longest.
+static void draw_row(void)
+{
+    count = draw(100) ? draw(8) : LONGEST;
+    for (size_t place = 0; place < count; place++)
+        row[place] = draw_stretch();
+}
+
 static void nothing(void) {}
 static void open_it(void) { pot_open(settings, one); }
 static void add_it(void) { pot_add(one, lo, hi); }
+static void add_row(void) { pot_add_row(one, row, count); }
 static void merge_them(void) { pot_merge(one, two); }
 static void estimate_it(void) { pot_estimate(one); }
 static void count_them(void) { pot_count(settings, level, lo, hi); }
@@ -56,6 +76,7 @@ static const struct {
 } calls[] = {
     {"pot_open", open_it, 1024},
     {"pot_add", add_it, 3600},
+    {"pot_add_row", add_row, 3600},
     {"pot_merge", merge_them, 5000},
     {"pot_estimate", estimate_it, 1024},
     {"pot_count", count_them, 1024},
@@ -73,10 +94,10 @@ static void prepare(void)
     pot_open(settings, one);
     pot_open(settings, two);
     for (uint32_t adds = draw(3); adds > 0; adds--) {
-        uint32_t from = 1 + draw(settings[POT_N]), longest = draw(2) ? 600 : settings[POT_N];
-        uint32_t rest = settings[POT_N] - from + 1;
-        pot_add(draw(2) ? one : two, from, from + draw(rest < longest ? rest : longest));
+        struct pot_stretch some = draw_stretch();
+        pot_add(draw(2) ? one : two, some.lo, some.hi);
     }
+    draw_row();
     pot_walker_open(settings, level, lo, hi, walker);
     length = pot_write(one, image, sizeof image).length;
 }

@@ -3,7 +3,7 @@
 
 use crate::draw::Draw;
 use crate::naive::{self, Pot};
-use crate::shape::{Settings, Sketch, BLOCK_BYTES, LARGEST_IMAGE, LARGEST_N, PLACES};
+use crate::shape::{Settings, Sketch, Stretch, BLOCK_BYTES, LARGEST_IMAGE, LARGEST_N, PLACES};
 use crate::version::Version;
 use std::collections::BTreeSet;
 
@@ -49,8 +49,35 @@ pub fn all_settings(n: u32, capacity: u32) -> impl Iterator<Item = Settings> {
 }
 
 /// All stretches of a kitchen with n cells.
-pub fn all_stretches(n: u32) -> impl Iterator<Item = (u32, u32)> {
+pub fn all_stretches(n: u32) -> impl Iterator<Item = Stretch> {
     (1..=n).flat_map(move |lo| (lo..=n).map(move |hi| (lo, hi)))
+}
+
+/// Bad stretches of a kitchen with n cells: three of each kind, lo below 1, hi
+/// above n, lo above hi, and three with several faults.
+pub fn bad_stretches(n: u32) -> [Stretch; 12] {
+    let below = [(0, 1), (0, n), (0, 0)];
+    let above = [(1, n + 1), (n, n + 1), (1, u32::MAX)];
+    let backward = [(2, 1), (n + 1, n), (u32::MAX, 1)];
+    let several = [(n + 1, n + 1), (0, u32::MAX), (u32::MAX, 0)];
+    let mut kinds = [below, above, backward, several].into_iter().flatten();
+    std::array::from_fn(|_| kinds.next().expect("four times three"))
+}
+
+/// Makes one stretch or several of a row bad, which has one at least, and answers
+/// the place of the first.
+pub fn spoil(draw: &mut Draw, n: u32, row: &mut [Stretch]) -> u32 {
+    let last = row.len() as u32 - 1;
+    let places = match draw.from_to(0, 3) {
+        0 => vec![0],
+        1 => vec![last],
+        2 => vec![draw.from_to(0, last)],
+        _ => (0..5).map(|_| draw.from_to(0, last)).collect(),
+    };
+    for &place in &places {
+        row[place as usize] = draw.choose(&bad_stretches(n));
+    }
+    places.into_iter().min().expect("one at least")
 }
 
 /// All sketches under given settings: each level with each set of at most

@@ -1,7 +1,7 @@
 //! Fixed pseudo-random numbers (splitmix64): the same seed draws the same
 //! numbers everywhere.
 
-use crate::shape::{Settings, LARGEST_N, PLACES};
+use crate::shape::{Settings, Stretch, LARGEST_N, PLACES};
 
 /// A stream of numbers that depends only on its seed.
 #[derive(Clone, Debug)]
@@ -41,10 +41,22 @@ impl Draw {
     }
 
     /// A stretch lo..hi within 1..n of at most `longest` cells.
-    pub fn stretch(&mut self, n: u32, longest: u32) -> (u32, u32) {
+    pub fn stretch(&mut self, n: u32, longest: u32) -> Stretch {
         let lo = self.from_to(1, n);
         let furthest = lo.saturating_add(longest - 1).min(n);
         (lo, self.from_to(lo, furthest))
+    }
+
+    /// A row of so many such stretches.
+    pub fn row(&mut self, count: u32, n: u32, longest: u32) -> Vec<Stretch> {
+        (0..count).map(|_| self.stretch(n, longest)).collect()
+    }
+
+    /// The same items in another order, each order equally likely.
+    pub fn shuffle<T>(&mut self, items: &mut [T]) {
+        for last in (1..items.len()).rev() {
+            items.swap(last, self.from_to(0, last as u32) as usize);
+        }
     }
 
     /// Good settings for a given n. Values of a near the ends of its rule and

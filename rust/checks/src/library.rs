@@ -2,7 +2,7 @@
 //! call fills has stale numbers in it and fences around it, and a refused call
 //! must leave behind what docs/RULES.md says.
 
-use crate::shape::{Estimate, Refusal, Settings, Sketch, Walker};
+use crate::shape::{Estimate, Refusal, Settings, Sketch, Stretch, Walker};
 use crate::version::Version;
 use pot::calls::{self, SKETCH, WALKER};
 use std::fmt::Debug;
@@ -47,7 +47,7 @@ fn told<T: PartialEq + Debug>(number: u32, value: T, refused: T) -> Result<T, Re
         return Ok(value);
     }
     assert!(value == refused, "refusal {number} comes with {value:?}");
-    Err(Refusal { number, block: 0 })
+    Err(Refusal { number, place: 0 })
 }
 
 fn some_cell(cell: u32) -> Option<u32> {
@@ -93,6 +93,21 @@ impl Version for Library {
         told(number, row.open(), sketch.row()).map(Sketch::of_row)
     }
 
+    /// No stretch of the fences is good, so a call that reads too far shows too.
+    fn add_row(sketch: &Sketch, row: &[Stretch]) -> Result<Sketch, Refusal> {
+        let fence = [(STALE, STALE); FENCE];
+        let fenced = for_library(&[&fence, row, &fence].concat());
+        let lent = fenced.clone();
+        let mut numbers = Fenced::new(sketch.row());
+        let answer = calls::add_row(&mut numbers.lent, &lent[FENCE..FENCE + row.len()]);
+        assert!(lent == fenced, "the row lent has changed");
+        let place = u32::try_from(answer.place).expect("a place of the row");
+        let number = answer.number;
+        assert!(number == 2 || place == 0, "{number} names place {place}");
+        let sketch = told(number, numbers.open(), sketch.row()).map(Sketch::of_row);
+        sketch.map_err(|refusal| Refusal { place, ..refusal })
+    }
+
     fn merge(sketch: &Sketch, other: &Sketch) -> Result<Sketch, Refusal> {
         let mut row = Fenced::new(sketch.row());
         let number = calls::merge(&mut row.lent, &other.row());
@@ -125,11 +140,17 @@ impl Version for Library {
     fn read(image: &[u8]) -> Result<Sketch, Refusal> {
         let mut row = Fenced::stale();
         let answer = calls::read(image, &mut row.lent);
-        let (number, block) = (answer.number, answer.block);
-        assert!(number == 7 || block == 0, "{number} names block {block}");
+        let (number, place) = (answer.number, answer.block);
+        assert!(number == 7 || place == 0, "{number} names block {place}");
         let sketch = told(number, row.open(), [0; SKETCH]).map(Sketch::of_row);
-        sketch.map_err(|Refusal { number, .. }| Refusal { number, block })
+        sketch.map_err(|refusal| Refusal { place, ..refusal })
     }
+}
+
+/// A row of stretches as the library takes it.
+pub fn for_library(row: &[Stretch]) -> Vec<pot::Stretch> {
+    let stretch = |&(lo, hi): &Stretch| pot::Stretch { lo, hi };
+    row.iter().map(stretch).collect()
 }
 
 impl Settings {

@@ -1,5 +1,5 @@
-//! The shapes of settings, sketches, walkers, refusals and estimates: all that
-//! the versions share. Any numbers may stand in them.
+//! The shapes of settings, stretches, sketches, walkers, refusals and estimates:
+//! all that the versions share. Any numbers may stand in them.
 
 /// Places for cells in a sketch.
 pub const PLACES: usize = 504;
@@ -19,6 +19,9 @@ pub struct Settings {
     pub b: u32,
     pub capacity: u32,
 }
+
+/// A stretch: lo and hi.
+pub type Stretch = (u32, u32);
 
 /// A walker over the passing cells of a stretch, from `position` to `hi`.
 #[derive(Clone, Copy, Debug, Default, PartialEq, Eq)]
@@ -57,11 +60,12 @@ pub enum Estimate {
     About(f64),
 }
 
-/// A refusal: its number, and the block for number 7 (zero for all others).
+/// A refusal: its number, and the place that it names, counted from zero: the
+/// block for number 7, the stretch for number 2 in a row (zero for all others).
 #[derive(Clone, Copy, Debug, PartialEq, Eq)]
 pub struct Refusal {
     pub number: u32,
-    pub block: u32,
+    pub place: u32,
 }
 
 impl Refusal {
@@ -75,12 +79,20 @@ impl Refusal {
     pub const LINE: Refusal = Refusal::numbered(9);
 
     const fn numbered(number: u32) -> Refusal {
-        Refusal { number, block: 0 }
+        Refusal { number, place: 0 }
+    }
+
+    /// Refusal 2 for the first bad stretch of a row.
+    pub const fn stretch_at(place: u32) -> Refusal {
+        Refusal { number: 2, place }
     }
 
     /// Refusal 7 for the first block whose check is wrong.
     pub const fn check_of(block: u32) -> Refusal {
-        Refusal { number: 7, block }
+        Refusal {
+            number: 7,
+            place: block,
+        }
     }
 }
 

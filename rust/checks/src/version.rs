@@ -1,7 +1,7 @@
 //! The calls of docs/RULES.md as a trait, which the library, the peer and the
 //! naive version meet. The tests are said once, over it.
 
-use crate::shape::{Estimate, Refusal, Settings, Sketch, Walker};
+use crate::shape::{Estimate, Refusal, Settings, Sketch, Stretch, Walker};
 use std::fmt::Debug;
 use std::marker::PhantomData;
 
@@ -24,6 +24,9 @@ pub trait Version {
 
     /// The sketch with lo..hi added.
     fn add(sketch: &Sketch, lo: u32, hi: u32) -> Result<Sketch, Refusal>;
+
+    /// The sketch with a row of stretches added.
+    fn add_row(sketch: &Sketch, row: &[Stretch]) -> Result<Sketch, Refusal>;
 
     /// The sketch with what the other stands for added.
     fn merge(sketch: &Sketch, other: &Sketch) -> Result<Sketch, Refusal>;
@@ -81,6 +84,11 @@ impl<V: Version, W: Version> Version for Beside<V, W> {
     fn add(sketch: &Sketch, lo: u32, hi: u32) -> Result<Sketch, Refusal> {
         let call = || format!("add {sketch:?} {lo} {hi}");
         alike(V::add(sketch, lo, hi), W::add(sketch, lo, hi), call)
+    }
+
+    fn add_row(sketch: &Sketch, row: &[Stretch]) -> Result<Sketch, Refusal> {
+        let call = || format!("add row {sketch:?} {row:?}");
+        alike(V::add_row(sketch, row), W::add_row(sketch, row), call)
     }
 
     fn merge(sketch: &Sketch, other: &Sketch) -> Result<Sketch, Refusal> {

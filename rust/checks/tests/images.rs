@@ -67,8 +67,7 @@ fn changed_bytes_are_seen_in_their_block<V: Version>() {
         for place in 0..image.len() {
             let change = draw.from_to(1, 255) as u8;
             image[place] ^= change;
-            let block = (place / BLOCK_BYTES) as u32;
-            let expected = Refusal::check_of(block);
+            let expected = Refusal::check_of((place / BLOCK_BYTES) as u32);
             assert_eq!(V::read(&image).err(), Some(expected), "{place}");
             image[place] ^= change;
         }

@@ -1,4 +1,5 @@
-//! Sketches, good and forged: opening, adding, merging, estimating.
+//! Sketches, good and forged: opening, adding, merging, estimating. Rows of
+//! stretches have tests of their own.
 
 use checks::cases::{
     all_settings, all_sketches, all_stretches, any_size, drawing, forge, forged_number, image_of,
@@ -62,8 +63,8 @@ struct Kept {
     cells: BTreeSet<u32>,
 }
 
-/// A long history of adds, merges and images over a few sketches. In the end each
-/// sketch is the sample of all cells that were ever added to it.
+/// A long history of adds, rows, merges and images over a few sketches. In the end
+/// each sketch is the sample of all cells that were ever added to it.
 fn history<V: Version>(draw: &mut Draw, settings: Settings, longest: u32, steps: u32) {
     let empty = Kept {
         sketch: V::open(&settings).unwrap(),
@@ -80,6 +81,14 @@ fn history<V: Version>(draw: &mut Draw, settings: Settings, longest: u32, steps:
             }
             2 | 3 => row[i].sketch = V::read(&image_of::<V>(&row[i].sketch)).unwrap(),
             4 if draw.once_in(4) => row[i] = empty.clone(),
+            5 => {
+                let count = draw.from_to(0, 4);
+                let stretches = draw.row(count, settings.n, longest);
+                row[i].sketch = V::add_row(&row[i].sketch, &stretches).unwrap();
+                for (lo, hi) in stretches {
+                    row[i].cells.extend(lo..=hi);
+                }
+            }
             _ => {
                 let (lo, hi) = draw.stretch(settings.n, longest);
                 let each = Pot::of(&row[i].sketch).unwrap().add_each(lo, hi);
@@ -205,6 +214,11 @@ fn all_calls<V: Version>(forged: &Sketch, good: &Sketch, lo: u32, hi: u32) -> bo
     assert_eq!(V::write(forged, &mut room).is_ok(), is_sketch);
     let _ = V::add(forged, lo, hi);
     let _ = V::add(forged, hi, 0);
+    let [good_one, bad] = [(lo, hi), (hi, 0)];
+    for row in [&[][..], &[good_one], &[bad], &[good_one, bad]] {
+        let refused = V::add_row(forged, row).err() == Some(Refusal::SHAPE);
+        assert_eq!(refused, !is_sketch, "{forged:?} {row:?}");
+    }
     let _ = V::merge(forged, good);
     let _ = V::merge(good, forged);
     let _ = V::write(forged, &mut room[..511]);

@@ -3,19 +3,31 @@
 //!
 //! A call's number is 0 where it is answered, and otherwise a refusal's
 //! ([`Refusal::from_number`](crate::Refusal::from_number)). Values are 0 with a
-//! refusal, but for the block that 7 names, and then no lent memory has changed,
-//! but for the row that opening or reading hands back as zeros.
+//! refusal, but for the block that 7 names and the place that 2 names in a row,
+//! and then no lent memory has changed, but for the row that opening or reading
+//! hands back as zeros.
 
-use crate::Settings;
+use crate::{Settings, Stretch};
 
-// A row of five numbers, without gaps.
+// Rows of five numbers and of two, without gaps.
 const _: () = assert!(std::mem::size_of::<Settings>() == 5 * 4);
+const _: () = assert!(std::mem::size_of::<Stretch>() == 2 * 4);
 
 /// The numbers in a sketch's row: the settings, the level, the number of cells,
 /// and 504 places.
 pub const SKETCH: usize = 511;
 /// The numbers in a walker's row: the settings, the level, the position, hi.
 pub const WALKER: usize = 8;
+
+/// What [`add_row`] answers.
+#[repr(C)]
+#[derive(Clone, Copy, Debug, PartialEq, Eq)]
+pub struct Placed {
+    /// 0, or the refusal's number.
+    pub number: u32,
+    /// With 2, the place of the first bad stretch, counted from 0.
+    pub place: usize,
+}
 
 /// What [`count`] and [`next_hit`] answer.
 #[repr(C)]
@@ -83,6 +95,14 @@ pub fn open(settings: &Settings, sketch: &mut [u32; SKETCH]) -> u32 {
 pub fn add(sketch: &mut [u32; SKETCH], lo: u32, hi: u32) -> u32 {
     // SAFETY: as in `open`.
     unsafe { linked::pot_add(sketch, lo, hi) }
+}
+
+/// Adds a row of stretches, as [`add`] does one after the other. Refusals: 4, 2
+/// for the first bad stretch, and the sketch is unchanged.
+#[inline]
+pub fn add_row(sketch: &mut [u32; SKETCH], row: &[Stretch]) -> Placed {
+    // SAFETY: as in `open`; the row passes with its own length.
+    unsafe { linked::pot_add_row(sketch, row.as_ptr(), row.len()) }
 }
 
 /// Adds what the other sketch stands for. Refusals: 4, 5, and the sketch is
@@ -154,11 +174,15 @@ pub fn read(image: &[u8], sketch: &mut [u32; SKETCH]) -> Taken {
 /// The declarations of the library's functions. Nothing checks them against the
 /// library, so they stand side by side with `include/pot.h`.
 mod linked {
-    use super::{Estimated, Found, Settings, Taken, Told, Written, SKETCH, WALKER};
+    use super::{
+        Estimated, Found, Placed, Settings, Stretch, Taken, Told, Written, SKETCH, WALKER,
+    };
 
     extern "C" {
         pub fn pot_open(settings: &Settings, sketch: &mut [u32; SKETCH]) -> u32;
         pub fn pot_add(sketch: &mut [u32; SKETCH], lo: u32, hi: u32) -> u32;
+        pub fn pot_add_row(sketch: &mut [u32; SKETCH], row: *const Stretch, count: usize)
+            -> Placed;
         pub fn pot_merge(sketch: &mut [u32; SKETCH], other: &[u32; SKETCH]) -> u32;
         pub fn pot_estimate(sketch: &[u32; SKETCH]) -> Estimated;
         pub fn pot_count(settings: &Settings, level: u32, lo: u32, hi: u32) -> Told;

@@ -41,11 +41,13 @@ pub mod calls;
 mod refusal;
 mod settings;
 mod sketch;
+mod stretch;
 mod walker;
 
 pub use refusal::Refusal;
 pub use settings::Settings;
 pub use sketch::{Estimate, Sketch};
+pub use stretch::Stretch;
 pub use walker::Walker;
 
 /// How many cells a sketch has places for: the largest capacity.

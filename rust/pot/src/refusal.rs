@@ -10,6 +10,11 @@ pub enum Refusal {
     /// 2: a stretch begins below cell 1, ends above cell n, or begins above its
     /// end.
     BadRange,
+    /// 2, in a row: a stretch of it is such a one. Nothing of the row was added.
+    BadStretch {
+        /// The first such stretch, counted from 0.
+        place: usize,
+    },
     /// 3: the level is above the top.
     BadLevel,
     /// 4: a row of numbers is not a sketch.
@@ -37,7 +42,7 @@ impl Refusal {
     pub fn number(&self) -> u32 {
         match self {
             Refusal::BadSettings => 1,
-            Refusal::BadRange => 2,
+            Refusal::BadRange | Refusal::BadStretch { .. } => 2,
             Refusal::BadLevel => 3,
             Refusal::NotOne => 4,
             Refusal::Unequal => 5,
@@ -48,7 +53,8 @@ impl Refusal {
     }
 
     /// The refusal of a number, with the block for 7; none where no refusal has
-    /// the number.
+    /// the number. For 2 it is that of a call with one stretch: only a row has a
+    /// place to name.
     ///
     /// ```
     /// # use pot::Refusal;
@@ -75,6 +81,9 @@ impl fmt::Display for Refusal {
         match self {
             Refusal::BadSettings => f.write_str("a setting is outside its rule"),
             Refusal::BadRange => f.write_str("the cells are not a stretch of 1..n"),
+            Refusal::BadStretch { place } => {
+                write!(f, "stretch {place} of the row is not a stretch of 1..n")
+            }
             Refusal::BadLevel => f.write_str("the level is above the top"),
             Refusal::NotOne => f.write_str("the numbers are not a sketch"),
             Refusal::Unequal => f.write_str("the settings of the two sketches are not equal"),

@@ -1,6 +1,6 @@
 use crate::calls;
 use crate::refusal::{refused, unless_refused};
-use crate::{Refusal, Settings, LARGEST_IMAGE};
+use crate::{Refusal, Settings, Stretch, LARGEST_IMAGE};
 use std::fmt;
 use std::ops::RangeInclusive;
 
@@ -58,6 +58,32 @@ impl Sketch {
     pub fn add(&mut self, cells: RangeInclusive<u32>) -> Result<(), Refusal> {
         let (lo, hi) = cells.into_inner();
         unless_refused(calls::add(&mut self.row, lo, hi), ())
+    }
+
+    /// Adds a row of stretches, as [`add`](Sketch::add) does one after the other,
+    /// but tests the sketch once. An empty row adds nothing.
+    ///
+    /// Refused with [`Refusal::BadStretch`], and then nothing of the row is added.
+    ///
+    /// ```
+    /// # use pot::{Refusal, Settings, Sketch, Stretch};
+    /// # let settings = Settings { n: 10, p: 101, a: 37, b: 5, capacity: 3 };
+    /// let mut sketch = Sketch::open(settings)?;
+    /// let mut queued: Vec<Stretch> = vec![(1..=2).into(), (2..=4).into()];
+    /// sketch.add_all(&queued)?;
+    /// assert_eq!((sketch.level(), sketch.cells()), (1, &[1, 3][..]));
+    /// queued.push(Stretch { lo: 6, hi: 11 });
+    /// assert_eq!(sketch.add_all(&queued), Err(Refusal::BadStretch { place: 2 }));
+    /// # Ok::<(), Refusal>(())
+    /// ```
+    #[inline]
+    pub fn add_all(&mut self, row: &[Stretch]) -> Result<(), Refusal> {
+        let told = calls::add_row(&mut self.row, row);
+        match told.number {
+            0 => Ok(()),
+            2 => Err(Refusal::BadStretch { place: told.place }),
+            number => Err(refused(number, 0)),
+        }
     }
 
     /// Adds what the other sketch stands for.

@@ -1,7 +1,7 @@
 //! The methods as somebody who depends on them meets them. What the calls behind
 //! them answer is tested in `checks`, against other versions.
 
-use pot::{calls, Estimate, Refusal, Settings, Sketch, LARGEST_IMAGE};
+use pot::{calls, Estimate, Refusal, Settings, Sketch, Stretch, LARGEST_IMAGE};
 use std::error::Error;
 
 const Q: Settings = Settings {
@@ -52,6 +52,27 @@ fn a_refusal_changes_nothing() {
     let mut room = [0xA5; LARGEST_IMAGE];
     assert_eq!(sketch.write(&mut room[..1_023]), Err(Refusal::NoRoom));
     assert_eq!((sketch, room), (before, [0xA5; LARGEST_IMAGE]));
+}
+
+#[test]
+fn a_row_is_added_whole_or_not_at_all() {
+    let mut sketch = sketch_of(2..=3);
+    let before = sketch.clone();
+    assert_eq!(sketch.add_all(&[]), Ok(()));
+    assert_eq!(sketch, before);
+    let good = Stretch::from(5..=6);
+    let bad = [(0, 3), (9, 11), (4, 3)].map(|(lo, hi)| Stretch { lo, hi });
+    for stretch in bad {
+        let row = [good, good, stretch, bad[0]];
+        for cut in 0..3 {
+            let first_bad = Refusal::BadStretch { place: 2 - cut };
+            assert_eq!(sketch.add_all(&row[cut..]), Err(first_bad));
+            assert_eq!(sketch, before);
+        }
+    }
+    let row = [good, Stretch::from(4..=4), good];
+    assert_eq!(sketch.add_all(&row), Ok(()));
+    assert_eq!(sketch, sketch_of(2..=6));
 }
 
 #[test]
@@ -108,4 +129,7 @@ fn refusals_have_numbers_and_words() {
         assert_eq!(error.to_string().contains('3'), number == 7, "{error}");
     }
     assert_eq!(Refusal::from_number(9, 0), None);
+    let third = Refusal::BadStretch { place: 3 };
+    assert_eq!(third.number(), Refusal::BadRange.number());
+    assert!(third.to_string().starts_with("stretch 3 "), "{third}");
 }

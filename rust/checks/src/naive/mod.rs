@@ -15,7 +15,7 @@ pub use settings::{
 };
 pub use sketch::{is_sketch, Pot};
 
-use crate::shape::{demand, Estimate, Refusal, Settings, Sketch, Walker};
+use crate::shape::{demand, Estimate, Refusal, Settings, Sketch, Stretch, Walker};
 use crate::version::Version;
 
 /// The naive version's calls.
@@ -66,6 +66,17 @@ impl Version for Naive {
         let pot = Pot::of(sketch)?;
         settings_call_refusal(&sketch.settings, 0, lo, hi)?;
         Ok(pot.add(lo, hi).shape())
+    }
+
+    /// One add after the other, given up at the first bad stretch.
+    fn add_row(sketch: &Sketch, row: &[Stretch]) -> Result<Sketch, Refusal> {
+        let mut pot = Pot::of(sketch)?;
+        for (place, &(lo, hi)) in (0..).zip(row) {
+            settings_call_refusal(&sketch.settings, 0, lo, hi)
+                .map_err(|refusal| Refusal { place, ..refusal })?;
+            pot = pot.add(lo, hi);
+        }
+        Ok(pot.shape())
     }
 
     fn merge(sketch: &Sketch, other: &Sketch) -> Result<Sketch, Refusal> {

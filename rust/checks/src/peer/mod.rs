@@ -17,7 +17,7 @@ mod walker;
 
 pub use potcount::Potcount;
 
-use crate::shape::{Estimate, Refusal, Settings, Sketch, Walker};
+use crate::shape::{Estimate, Refusal, Settings, Sketch, Stretch, Walker};
 use crate::version::Version;
 
 /// The peer's calls, which are methods of the shapes.
@@ -47,6 +47,10 @@ impl Version for Peer {
 
     fn add(sketch: &Sketch, lo: u32, hi: u32) -> Result<Sketch, Refusal> {
         sketch.add(lo, hi)
+    }
+
+    fn add_row(sketch: &Sketch, row: &[Stretch]) -> Result<Sketch, Refusal> {
+        sketch.add_row(row)
     }
 
     fn merge(sketch: &Sketch, other: &Sketch) -> Result<Sketch, Refusal> {

@@ -1,7 +1,7 @@
 //! Settings, hash, regions and passing; the range count and the next hit.
 
 use super::folds::{floor_sum_difference, least_multiple_in};
-use crate::shape::{demand, Refusal, Settings, LARGEST_N, PLACES};
+use crate::shape::{demand, Refusal, Settings, Stretch, LARGEST_N, PLACES};
 
 impl Settings {
     /// Refuses with 1 unless every setting obeys its rule.
@@ -36,7 +36,20 @@ impl Settings {
     }
 
     pub(super) fn check_stretch(&self, lo: u32, hi: u32) -> Result<(), Refusal> {
-        demand(1 <= lo && lo <= hi && hi <= self.n, Refusal::RANGE)
+        demand(self.has_stretch(lo, hi), Refusal::RANGE)
+    }
+
+    /// Refuses with 2 for the first bad stretch of a row.
+    pub(super) fn check_row(&self, row: &[Stretch]) -> Result<(), Refusal> {
+        let mut stretches = row.iter();
+        match stretches.position(|&(lo, hi)| !self.has_stretch(lo, hi)) {
+            Some(place) => Err(Refusal::stretch_at(place as u32)),
+            None => Ok(()),
+        }
+    }
+
+    fn has_stretch(&self, lo: u32, hi: u32) -> bool {
+        1 <= lo && lo <= hi && hi <= self.n
     }
 
     // The functions below expect good settings and cells in 1..n.

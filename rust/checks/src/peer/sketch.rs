@@ -2,7 +2,7 @@
 
 use super::folds::Gaps;
 use super::settings::SampleHash;
-use crate::shape::{demand, Estimate, Refusal, Settings, Sketch, PLACES};
+use crate::shape::{demand, Estimate, Refusal, Settings, Sketch, Stretch, PLACES};
 
 impl Sketch {
     /// An empty sketch at level 0. Refusal: 1.
@@ -20,24 +20,21 @@ impl Sketch {
     }
 
     /// The sketch with the cells lo..hi added. Refusals: 4, 2.
-    pub fn add(self, lo: u32, hi: u32) -> Result<Sketch, Refusal> {
+    pub fn add(mut self, lo: u32, hi: u32) -> Result<Sketch, Refusal> {
         self.check()?;
         self.settings.check_stretch(lo, hi)?;
-        let (below, inside, above) = self.split(lo, hi);
-        let hits = self.settings.count_hits(self.region(), lo, hi);
-        if hits as usize == inside.len() {
-            // The kept cells inside are passing cells, so they are all of them.
-            return Ok(self);
+        self.insert(lo, hi);
+        Ok(self)
+    }
+
+    /// The sketch with a row of stretches added. Refusals: 4, 2.
+    pub fn add_row(mut self, row: &[Stretch]) -> Result<Sketch, Refusal> {
+        self.check()?;
+        self.settings.check_row(row)?;
+        for &(lo, hi) in row {
+            self.insert(lo, hi);
         }
-        let outside = (below.len() + above.len()) as u32;
-        if outside + hits <= self.settings.capacity {
-            let mut next = Sketch::empty(self.settings, self.level);
-            next.push_all(below);
-            next.push_hits(lo, hi, hits);
-            next.push_all(above);
-            return Ok(next);
-        }
-        Ok(self.add_higher(lo, hi))
+        Ok(self)
     }
 
     /// The sketch with the cells of another one added. Refusals: 4, 5.
@@ -119,11 +116,11 @@ impl Sketch {
     }
 
     /// The kept cells below lo, in lo..hi, and above hi.
-    fn split(&self, lo: u32, hi: u32) -> (&[u32], &[u32], &[u32]) {
+    fn split(&self, lo: u32, hi: u32) -> [&[u32]; 3] {
         let kept = self.kept();
         let (below, rest) = kept.split_at(kept.partition_point(|&cell| cell < lo));
         let (inside, above) = rest.split_at(rest.partition_point(|&cell| cell <= hi));
-        (below, inside, above)
+        [below, inside, above]
     }
 
     /// The sketch with only the cells that pass at a level not below its own.
@@ -136,11 +133,35 @@ impl Sketch {
         next
     }
 
+    /// Adds lo..hi, a good stretch, where the sketch stands.
+    fn insert(&mut self, lo: u32, hi: u32) {
+        let hits = self.settings.count_hits(self.region(), lo, hi);
+        if hits == 0 {
+            return;
+        }
+        let [below, inside, above] = self.split(lo, hi).map(<[u32]>::len);
+        if hits as usize == inside {
+            // The kept cells inside are passing cells, so they are all of them.
+            return;
+        }
+        let end = below + hits as usize;
+        if end + above > self.settings.capacity as usize {
+            *self = self.add_higher(lo, hi);
+            return;
+        }
+        // There are more hits than kept cells inside, so those above move up.
+        let old_end = below + inside;
+        self.cells.copy_within(old_end..old_end + above, end);
+        self.count = below as u32;
+        self.push_hits(lo, hi, hits);
+        self.count += above as u32;
+    }
+
     /// Adds lo..hi where the present level has too many cells for the capacity.
     /// One long stretch may need many raises, so the level is found by halving.
     fn add_higher(&self, lo: u32, hi: u32) -> Sketch {
         let settings = &self.settings;
-        let (below, _, above) = self.split(lo, hi);
+        let [below, _, above] = self.split(lo, hi);
         let hash = SampleHash::new(settings);
         let outside = [below, above].map(|cells| Reaches::of(cells, &hash));
         let hits_at = |level| settings.count_hits(settings.p >> level, lo, hi);

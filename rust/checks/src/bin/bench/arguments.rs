@@ -2,7 +2,8 @@
 
 use checks::cases::LARGEST;
 use checks::draw::Draw;
-use checks::shape::{Settings, Sketch, LARGEST_N};
+use checks::library::for_library;
+use checks::shape::{Settings, Sketch, Stretch, Walker, LARGEST_N};
 
 /// The settings with another a and b, so that figures don't hang on one fold.
 fn typical_settings(draw: &mut Draw) -> Settings {
@@ -26,9 +27,18 @@ pub fn both_settings(draw: &mut Draw) -> BothSettings {
     (settings, settings.for_library())
 }
 
-pub fn stretch(draw: &mut Draw, cells: u32) -> (u32, u32) {
+pub fn stretch(draw: &mut Draw, cells: u32) -> Stretch {
     let lo = draw.from_to(1, LARGEST_N - cells + 1);
     (lo, lo + cells - 1)
+}
+
+/// A row of stretches in the types of the peer and of the library.
+pub type BothRows = (Vec<Stretch>, Vec<pot::Stretch>);
+
+pub fn both_rows(draw: &mut Draw, count: u32, cells: u32) -> BothRows {
+    let row: Vec<Stretch> = (0..count).map(|_| stretch(draw, cells)).collect();
+    let library = for_library(&row);
+    (row, library)
 }
 
 /// A sketch in the types of the peer and of the library.
@@ -54,6 +64,16 @@ pub fn exact_sketch() -> Sketch {
 /// The sketch of half of all cells, at a high level.
 pub fn high_sketch() -> Sketch {
     empty().add(1, LARGEST_N / 2).expect("a good stretch")
+}
+
+/// As many cells as the capacity, at a high level: those up to the last hit that
+/// there is a place for.
+pub fn full_high_sketch() -> Sketch {
+    let level = high_sketch().level;
+    let mut walker = Walker::open(LARGEST, level, 1, LARGEST_N).expect("a good stretch");
+    let hits = (0..LARGEST.capacity).map(|_| walker.next_hit().expect("a walker"));
+    let last = hits.last().flatten().expect("more hits than places");
+    empty().add(1, last).expect("a good stretch")
 }
 
 pub fn shown(sketch: &Sketch) -> String {

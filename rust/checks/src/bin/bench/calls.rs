@@ -1,16 +1,20 @@
 //! The calls, timed one after the other.
 
 use crate::arguments::{
-    both_settings, both_sketches, empty, exact_sketch, high_sketch, largest_sample, shown, stretch,
-    BothSettings, BothSketches,
+    both_rows, both_settings, both_sketches, empty, exact_sketch, full_high_sketch, high_sketch,
+    largest_sample, shown, stretch, BothRows, BothSettings, BothSketches,
 };
-use crate::timing::{cells_shown, Line};
+use crate::timing::{cells_shown, with_commas, Line};
 use checks::cases::LARGEST;
 use checks::draw::Draw;
 use checks::naive::{self, Pot};
 use checks::shape::{Sketch, Walker, LARGEST_IMAGE, LARGEST_N};
+use std::hint::black_box;
 
 const ARGUMENTS: usize = 500;
+/// Rows, and the stretches of each.
+const ROWS: usize = 50;
+const ROW: u32 = 1_000;
 /// Low, middle and high: of these levels about one cell in 2, in 4,096 and in
 /// 67,108,864 passes.
 const LEVELS: [(&str, u32); 3] = [("low", 1), ("middle", 12), ("high", 26)];
@@ -85,6 +89,15 @@ pub fn time_walkers() {
     }
 }
 
+/// What the library answers on a fresh copy of a sketch, and the copy after it
+/// looked at where it is.
+fn on_copy<R>(sketch: &pot::Sketch, call: impl FnOnce(&mut pot::Sketch) -> R) -> R {
+    let mut next = sketch.clone();
+    let answer = call(&mut next);
+    black_box(&next);
+    answer
+}
+
 pub fn time_adds(draw: &mut Draw) {
     for sketch in [empty(), exact_sketch(), high_sketch()] {
         for cells in [1, 100, 10_000, 1_000_000, 100_000_000] {
@@ -107,13 +120,46 @@ fn time_add(draw: &mut Draw, sketch: Sketch, cells: u32) {
     Line::time(
         format!("add, {}, to {}", cells_shown(cells), shown(&sketch)),
         &stretches,
-        |&(lo, hi)| {
-            let mut next = library.clone();
-            (next.add(lo..=hi), next)
-        },
+        |&(lo, hi)| on_copy(&library, |next| next.add(lo..=hi)),
         |&(lo, hi)| peer.add(lo, hi),
     )
     .beside_each_cell(cells, &stretches, |&(lo, hi)| pot.add_each(lo, hi))
+    .print();
+}
+
+pub fn time_rows(draw: &mut Draw) {
+    let sketch = full_high_sketch();
+    for cells in [10, 10_000] {
+        time_row(draw, sketch, cells);
+    }
+}
+
+/// Beside the peer's rows, and beside single adds of the library.
+fn time_row(draw: &mut Draw, sketch: Sketch, cells: u32) {
+    let rows: Vec<BothRows> = (0..ROWS).map(|_| both_rows(draw, ROW, cells)).collect();
+    let (peer, library) = both_sketches(sketch);
+    let add_row = |(_, row): &BothRows| on_copy(&library, |next| next.add_all(row));
+    let add_each = |(_, row): &BothRows| {
+        on_copy(&library, |next| {
+            row.iter()
+                .try_for_each(|stretch| next.add(stretch.lo..=stretch.hi))
+        })
+    };
+    let [count, cells] = [with_commas(ROW), cells_shown(cells)];
+    let name = format!("row, {count} stretches of {cells}");
+    Line::time_long(
+        format!("{name}, to {}", shown(&sketch)),
+        &rows,
+        add_row,
+        |(row, _)| peer.add_row(row),
+    )
+    .print();
+    Line::time_long(
+        format!("{name}, beside single adds"),
+        &rows,
+        add_row,
+        add_each,
+    )
     .print();
 }
 
@@ -142,10 +188,7 @@ fn time_merge(name: &str, ones: &[BothSketches], twos: &[BothSketches]) {
     Line::time(
         name.to_string(),
         &pairs,
-        |((_, one), (_, two))| {
-            let mut next = one.clone();
-            (next.merge(two), next)
-        },
+        |((_, one), (_, two))| on_copy(one, |next| next.merge(two)),
         |((one, _), (two, _))| one.merge(two),
     )
     .print();

@@ -9,12 +9,15 @@ mod calls;
 mod potcount;
 mod timing;
 
-use calls::{time_adds, time_counts, time_images, time_merges, time_next_hits, time_walkers};
+use calls::{
+    time_adds, time_counts, time_images, time_merges, time_next_hits, time_rows, time_walkers,
+};
 use checks::draw::Draw;
 use potcount::time_potcount;
 use std::env;
 use std::io;
 use std::process::Command;
+use timing::print_heads;
 
 const SEED: u64 = 2_025;
 
@@ -25,25 +28,27 @@ by group, over the same arguments. Each of their calls checks its settings, and
 its whole sketch if it has one; the version that tests each cell checks neither,
 has fewer arguments and takes the best of 2 rounds.
 Levels: low 1, middle 12, high 26.
-Buffers: the row of a sketch is not cleared before a call. Before each add and
-merge it is a fresh copy of the same sketch, and that copy is timed, for library
-and peer alike. The row that a read fills is cleared before each call, and that is
-timed too. The room for images is cleared once, before the first round, and not
-between calls. Images to read were written before. Library and peer allocate
-nothing in a timed call.
+Rows of stretches: the mean over 50 rows, each row's best of 15 rounds. In a line
+that ends in \"beside single adds\" as many adds of the library, one after the
+other, stand in the place of the peer.
+Buffers: the row of a sketch is not cleared before a call. Before each add, row of
+stretches and merge it is a fresh copy of the same sketch, and that copy is timed,
+on both sides; for single adds there is one before the first of a row. The row of
+numbers that a read fills is cleared before each call, and that is timed too. The
+room for images is cleared once, before the first round, and not between calls.
+Images to read were written before. Library and peer allocate nothing in a timed
+call.
 ";
 
 fn main() -> io::Result<()> {
     println!("seed {SEED}\n{NOTES}");
-    println!(
-        "{:<50} {:>10} {:>10} {:>9} {:>13} {:>11}",
-        "", "library", "peer", "lib/peer", "each cell", "each/lib"
-    );
+    print_heads();
     let mut draw = Draw::new(SEED);
     time_counts(&mut draw);
     time_next_hits(&mut draw);
     time_walkers();
     time_adds(&mut draw);
+    time_rows(&mut draw);
     time_merges(&mut draw);
     time_images();
     match env::args_os().nth(1) {

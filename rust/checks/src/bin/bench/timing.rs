@@ -1,6 +1,7 @@
 //! Timing and printing.
 
 use std::hint::black_box;
+use std::slice::Chunks;
 use std::time::{Duration, Instant};
 
 const ROUNDS: usize = 15;
@@ -11,6 +12,8 @@ const GROUP: usize = 25;
 /// call of it may take a good part of a second.
 const EACH_CELL_ROUNDS: usize = 2;
 const EACH_CELL_CELLS: u32 = 5_000_000;
+/// The room for a line's name.
+const NAME: usize = 66;
 
 /// One line of the table.
 pub struct Line {
@@ -25,10 +28,29 @@ impl Line {
     pub fn time<T, A, B>(
         name: String,
         arguments: &[T],
+        library: impl FnMut(&T) -> A,
+        peer: impl FnMut(&T) -> B,
+    ) -> Line {
+        Line::time_groups(name, arguments.chunks(GROUP), library, peer)
+    }
+
+    /// The same for calls that take as long as a group: each is one.
+    pub fn time_long<T, A, B>(
+        name: String,
+        arguments: &[T],
+        library: impl FnMut(&T) -> A,
+        peer: impl FnMut(&T) -> B,
+    ) -> Line {
+        Line::time_groups(name, arguments.chunks(1), library, peer)
+    }
+
+    fn time_groups<T, A, B>(
+        name: String,
+        groups: Chunks<T>,
         mut library: impl FnMut(&T) -> A,
         mut peer: impl FnMut(&T) -> B,
     ) -> Line {
-        let groups = arguments.chunks(GROUP);
+        let arguments = groups.clone().map(<[T]>::len).sum();
         let mut library_times = BestTimes::new(groups.len());
         let mut peer_times = BestTimes::new(groups.len());
         for _ in 0..ROUNDS {
@@ -39,8 +61,8 @@ impl Line {
         }
         Line {
             name,
-            library: library_times.mean(arguments.len()),
-            peer: peer_times.mean(arguments.len()),
+            library: library_times.mean(arguments),
+            peer: peer_times.mean(arguments),
             each_cell: None,
         }
     }
@@ -75,8 +97,16 @@ impl Line {
             |each| format!("{each:>13.0} {:>11.2}", each / library),
         );
         let ratio = library / peer;
-        println!("{name:<50} {library:>10.1} {peer:>10.1} {ratio:>9.2} {each}");
+        println!("{name:<NAME$} {library:>10.1} {peer:>10.1} {ratio:>9.2} {each}");
     }
+}
+
+/// The heads of the columns.
+pub fn print_heads() {
+    println!(
+        "{:<NAME$} {:>10} {:>10} {:>9} {:>13} {:>11}",
+        "", "library", "peer", "lib/peer", "each cell", "each/lib"
+    );
 }
 
 /// The best time so far of each group of arguments.
@@ -98,16 +128,24 @@ impl BestTimes {
     }
 }
 
+/// What a call answers is looked at where it is: to hand a sketch on would be one
+/// copy more.
 fn time_group<T, R>(arguments: &[T], call: &mut impl FnMut(&T) -> R) -> Duration {
     let start = Instant::now();
     for argument in arguments {
-        black_box(call(black_box(argument)));
+        black_box(&call(black_box(argument)));
     }
     start.elapsed()
 }
 
-/// So many cells, with a comma after each three digits.
+/// So many cells.
 pub fn cells_shown(number: u32) -> String {
+    let noun = if number == 1 { "cell" } else { "cells" };
+    format!("{} {noun}", with_commas(number))
+}
+
+/// A number with a comma between each three digits.
+pub fn with_commas(number: u32) -> String {
     let digits = number.to_string();
     let groups: Vec<&str> = digits
         .as_bytes()
@@ -115,6 +153,5 @@ pub fn cells_shown(number: u32) -> String {
         .rev()
         .map(|group| std::str::from_utf8(group).expect("digits"))
         .collect();
-    let noun = if number == 1 { "cell" } else { "cells" };
-    format!("{} {noun}", groups.join(","))
+    groups.join(",")
 }
