@@ -61,6 +61,7 @@ pub data Outcome (Told : Type 0) : Type 0 where
 abbrev pub Paper : Type 0
 Paper = Outcome (List ℕ)
 
+-- it is answered, whatever it tells
 abbrev pub isAnswered : {Told : Type 0} → Outcome Told → Bool
 isAnswered (answered told) = true
 isAnswered (refused number place) = false
