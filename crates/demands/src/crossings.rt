@@ -1,17 +1,17 @@
 // The calls of the boundary, tied to their promises.
 ghost use Rattle.find.specs.Finding.{countOn, nextOn};
 ghost use Rattle.sketch.specs.Estimates.{estimateOn};
-ghost use Rattle.host.specs.Crossing.{settingsFrom, sketchIn, walkerIn};
-ghost use Rattle.host.specs.Crossing.{Crosses, Weighs, Opens, Adds, AddsRow, Merges, ReadsIn, WritesOut, Begins, Moves};
-use host::crossing::SETTINGS;
-use host::crossing::SKETCH;
-use host::crossing::WALKER;
-use host::told::ToldBlock;
-use host::told::ToldCell;
-use host::told::ToldDouble;
-use host::told::ToldLength;
-use host::told::ToldPlace;
-use host::told::ToldValue;
+ghost use Rattle.crossing.specs.Crossing.{settingsFrom, sketchIn, walkerIn, Crosses, Weighs};
+ghost use Rattle.host.specs.Promises.{Opens, Adds, AddsRow, Merges, ReadsIn, WritesOut, Begins, Moves};
+use crossing::SETTINGS;
+use crossing::SKETCH;
+use crossing::WALKER;
+use crossing::told::ToldBlock;
+use crossing::told::ToldCell;
+use crossing::told::ToldDouble;
+use crossing::told::ToldLength;
+use crossing::told::ToldPlace;
+use crossing::told::ToldValue;
 use row::Stretch;
 
 pub fn opens(settings: &[u32; SETTINGS], sketch: &mut [u32; SKETCH]) -> u32

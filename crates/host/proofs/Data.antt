@@ -10,8 +10,8 @@ use Rattle.lent.proofs.Walk.{Plain, of-struct, of-array}
 use Rattle.row.proofs.Data.{word32}
 use Rattle.host.proofs.stretches.Asked as Asked
 use Rattle.host.proofs.stretches.Asked.Laws as Asked′
-use Rattle.host.proofs.told.ToldPlace as ToldPlace
-use Rattle.host.proofs.told.ToldPlace.Laws as ToldPlace′
+use Rattle.crossing.proofs.told.ToldPlace as ToldPlace
+use Rattle.crossing.proofs.told.ToldPlace.Laws as ToldPlace′
 
 -- a sketch's numbers
 abbrev pub Numbers : RattleType

@@ -1,5 +1,4 @@
 -- The laws.
-pub mod Crossings
 pub mod Outcomes
 pub mod Refusing
 pub mod Tight

@@ -26,16 +26,17 @@ use Rattle.find.specs.declared.Started.{Started}
 use Rattle.find.specs.Walking.{Starts}
 use Rattle.sketch.specs.declared.Sketch.{Sketch}
 use Rattle.sketch.specs.declared.Changed.{Changed}
-use Rattle.sketch.specs.declared.settle.Kept.{Kept}
-use Rattle.sketch.specs.Settling.{Keeps, keptIn}
+use Rattle.settle.specs.declared.Kept.{Kept}
+use Rattle.settle.specs.Settling.{Keeps, keptIn}
 use Rattle.sketch.specs.Sketches.{held, keptOf, isSketch, add, merge}
 use Rattle.sketch.specs.Calls.{Hands, handed, addWhen, addOn, mergeWhen, mergeOn}
 use Rattle.sketch.specs.Estimates.{standsFor, estimateOn}
 use Rattle.sketch.proofs.Facts.{sketch-facts, count-few}
 use Rattle.sketch.proofs.Handing.{add-told, merge-told, kept-add, kept-merge}
 use Rattle.sketch.proofs.Worth.{level-small, stands-at-zero, worth-about, weighs-exact, weighs-about}
-use Rattle.host.specs.Crossing.{settingsFrom, sketchRow, sketchIn, walkerRow, toldNumber, doubleOf, Crosses, Gives, Begins}
-use Rattle.host.proofs.Crossings.{row-again}
+use Rattle.crossing.specs.Crossing.{settingsFrom, sketchRow, sketchIn, walkerRow, toldNumber, doubleOf, Crosses}
+use Rattle.host.specs.Promises.{Gives, Begins}
+use Rattle.crossing.proofs.Crossings.{row-again}
 
 pub told : {p q : Paper} {r v : ℕ} → Crosses p r v → p ≡ q → Crosses q r v
 told t e = rw e at t

@@ -30,9 +30,9 @@ use Rattle.row.specs.Stretches.{allIn, firstBad, addAll, rowOn}
 use Rattle.image.specs.Images.{imageOf, saidSettings, spelled}
 use Rattle.image.specs.Shapes.{blocksIn, firstWrong}
 use Rattle.image.specs.Calls.{writeOn, roomAfter, rightLength, marked, isImage, readMarked, readOn}
-use Rattle.host.specs.Crossing.{sketchRow, sketchIn, walkerRow, walkerIn, toldNumber, toldValue}
-use Rattle.host.specs.Crossing.{Crosses, Gives, AddsRow, ReadsIn, WritesOut, Begins, Moves, Weighs}
-use Rattle.host.proofs.Crossings.{row-again, walker-row-again, zero-row, zero-walker-row}
+use Rattle.crossing.specs.Crossing.{sketchRow, sketchIn, walkerRow, walkerIn, toldNumber, toldValue, Crosses, Weighs}
+use Rattle.host.specs.Promises.{Gives, AddsRow, ReadsIn, WritesOut, Begins, Moves}
+use Rattle.crossing.proofs.Crossings.{row-again, walker-row-again, zero-row, zero-walker-row}
 
 -- a paper that has no value with a refusal
 Bare : Paper → Type 0

@@ -18,8 +18,9 @@ use Rattle.row.proofs.Places.{none, t-twice}
 use Rattle.row.proofs.Runs.{AddsOne, Added, takes-next, one-more, no-more-left}
 use Rattle.row.proofs.Rows.{row-is, takes-all, next-done, old-back}
 use Rattle.host.specs.declared.stretches.Asked.{Asked}
-use Rattle.host.specs.Crossing.{sketchRow, sketchIn, askedOf, Crosses, AddsRow}
-use Rattle.host.proofs.Crossings.{sketch-again, row-again}
+use Rattle.crossing.specs.Crossing.{sketchRow, sketchIn, Crosses}
+use Rattle.host.specs.Promises.{askedOf, AddsRow}
+use Rattle.crossing.proofs.Crossings.{sketch-again, row-again}
 use Rattle.host.proofs.Outcomes.{told}
 
 -- h are the numbers as they came, and c those that the run has made before element i

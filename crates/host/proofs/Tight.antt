@@ -16,7 +16,8 @@ use Rattle.find.specs.declared.Walker.{Walker}
 use Rattle.sketch.specs.declared.Sketch.{Sketch}
 use Rattle.sketch.specs.Estimates.{Weight}
 use Rattle.row.specs.declared.Stretch.{Stretch}
-use Rattle.host.specs.Crossing.{Crosses, Gives, AddsRow, ReadsIn, WritesOut, Begins, Moves, Weighs}
+use Rattle.crossing.specs.Crossing.{Crosses, Weighs}
+use Rattle.host.specs.Promises.{Gives, AddsRow, ReadsIn, WritesOut, Begins, Moves}
 
 module _ {r q : ℕ} where
   pub estimates-tight : {t u : ℕ} {x y : Float} (a : Outcome Weight) → Weighs a r t x → Weighs a q u y → (r ≡ q) × (t ≡ u) × (x ≡ y)

@@ -23,8 +23,9 @@ use Rattle.find.specs.Walking.{isWalker, stepOn, moved, afterStep}
 use Rattle.find.proofs.Checks.{within-cell}
 use Rattle.find.proofs.Hits.{hit-within}
 use Rattle.find.proofs.Walks.{walker-within}
-use Rattle.host.specs.Crossing.{walkerRow, walkerIn, toldNumber, toldValue, Crosses, Moves}
-use Rattle.host.proofs.Crossings.{walker-row-again}
+use Rattle.crossing.specs.Crossing.{walkerRow, walkerIn, toldNumber, toldValue, Crosses}
+use Rattle.host.specs.Promises.{Moves}
+use Rattle.crossing.proofs.Crossings.{walker-row-again}
 
 -- a search for a hit, as a call answers it
 abbrev answer : Option ℕ → Paper

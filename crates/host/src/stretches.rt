@@ -8,15 +8,16 @@ ghost use lib.ListN.{length};
 ghost use Rattle.find.specs.Finding.{inRange};
 ghost use Rattle.sketch.specs.Sketches.{Sound, add};
 ghost use Rattle.row.specs.Stretches.{addAll, AddsAll};
-ghost use Rattle.host.specs.Crossing.{sketchIn, sketchRow, askedOf};
-use crate::crossing::SKETCH;
-use crate::crossing::is_sketch;
-use crate::crossing::kept_in;
-use crate::crossing::put_head;
-use crate::crossing::settings_in;
+ghost use Rattle.crossing.specs.Crossing.{sketchIn, sketchRow};
+ghost use Rattle.host.specs.Promises.{askedOf};
+use crossing::SKETCH;
+use crossing::is_sketch;
+use crossing::kept_in;
+use crossing::put_head;
+use crossing::settings_in;
 use row::Stretch;
 use rule::Settings;
-use sketch::settle::add_to;
+use settle::add_to;
 
 // Whether the numbers lent are a sketch's, and its settings.
 pub struct Asked {

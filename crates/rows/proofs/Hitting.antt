@@ -26,9 +26,9 @@ use Rattle.rule.specs.Rule.{hash, region, passes}
 use Rattle.rule.specs.Samples.{rangeCount, nextHit}
 use Rattle.rule.specs.Refusals.{answered, ofFound}
 use Rattle.rule.proofs.NextHits.{next-some, walk-some, walk-none}
-use Rattle.rows.specs.declared.strides.Hit.{Hit}
+use Rattle.strides.specs.declared.Hit.{Hit}
 use Rattle.find.specs.Finding.{hits}
-use Rattle.rows.specs.Striding.{IsHit, Next}
+use Rattle.strides.specs.Striding.{IsHit, Next}
 use Rattle.find.proofs.Counting.{count-none}
 use Rattle.find.proofs.Hits.{hit-some, hit-none}
 

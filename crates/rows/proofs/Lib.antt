@@ -3,5 +3,3 @@ pub mod Walks
 pub mod Merges
 pub mod Facts
 pub mod Hitting
-pub mod Moves
-pub mod Gaps

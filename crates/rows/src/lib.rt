@@ -9,7 +9,6 @@ ghost use Rattle.rule.specs.Rule.{Good, passes};
 ghost use Rattle.rows.specs.Walked.{cellsBelow, Ascending, allIn, inOrder, risesFrom};
 
 pub mod stores;
-pub mod strides;
 
 use rule::Settings;
 

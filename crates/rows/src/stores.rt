@@ -9,10 +9,10 @@ ghost use Rattle.lists.specs.Rows.{union, Stored};
 ghost use Rattle.rule.specs.Rule.{Good, passes};
 ghost use Rattle.rule.specs.Samples.{rangeCount};
 ghost use Rattle.find.specs.Finding.{Within};
-use crate::strides::Hit;
-use crate::strides::Strides;
 use rule::Settings;
 use rule::answers::Found;
+use strides::Hit;
+use strides::Strides;
 
 // Stores the row's cells in `out` from place `at` on; answers the place after them.
 pub fn store(out: &mut [u32], at: usize, row: &[u32]) -> usize

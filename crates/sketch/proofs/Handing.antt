@@ -27,7 +27,7 @@ use Rattle.find.specs.Finding.{inRange}
 use Rattle.find.proofs.Checks.{unless-told}
 use Rattle.sketch.specs.declared.Sketch.{Sketch}
 use Rattle.sketch.specs.declared.Changed.{Changed}
-use Rattle.sketch.specs.Settling.{Keeps, keptIn, KeptRow}
+use Rattle.settle.specs.Settling.{Keeps, keptIn, KeptRow}
 use Rattle.sketch.specs.Sketches.{held, sketchAt, cellsOf, keptOf, isSketch, Sound, sketchFrom, add, merge}
 use Rattle.sketch.specs.Calls.{openOn, addWhen, addOn, mergeWhen, mergeOn, sameSettings, doneWith, refusedWith, Hands}
 use Rattle.sketch.proofs.Facts.{same-facts, count-few}

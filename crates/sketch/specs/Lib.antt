@@ -1,5 +1,4 @@
 -- The definitions that the contracts cite.
 pub mod Sketches
-pub mod Settling
 pub mod Calls
 pub mod Estimates

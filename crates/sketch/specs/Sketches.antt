@@ -13,7 +13,7 @@ use Rattle.rule.specs.Rule.{Good, isGood, passes, top, all}
 use Rattle.rule.specs.Samples.{sample, lowest}
 use Rattle.rows.specs.Walked.{risesFrom}
 use Rattle.sketch.specs.declared.Sketch.{Sketch}
-use Rattle.sketch.specs.declared.settle.Kept.{Kept}
+use Rattle.settle.specs.declared.Kept.{Kept}
 
 -- a sketch from its parts, whatever they are
 abbrev pub held : Settings → ℕ → ℕ → List ℕ → Sketch

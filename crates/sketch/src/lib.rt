@@ -13,15 +13,13 @@ use rule::refusals::BAD_SETTINGS;
 use rule::refusals::NOT_ONE;
 
 pub mod estimates;
-mod levels;
 pub mod order;
-pub mod settle;
 
 use estimates::Estimate;
 use settle::Kept;
 
 // The places of a sketch's row.
-pub const PLACES: usize = rule::GREATEST_CAPACITY as usize;
+pub const PLACES: usize = settle::PLACES;
 
 // A level, and the cells kept at it: the first `count` places, rising, with zeros after them.
 pub struct Sketch {

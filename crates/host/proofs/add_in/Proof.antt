@@ -8,7 +8,7 @@ use Rattle.find.specs.Finding.{inRange}
 use Rattle.sketch.specs.Calls.{addWhen}
 use Rattle.sketch.proofs.Facts.{sketch-facts}
 use Rattle.sketch.proofs.Handing.{add-granted}
-use Rattle.host.proofs.Crossings.{settings-of-row}
+use Rattle.crossing.proofs.Crossings.{settings-of-row}
 use Rattle.host.proofs.Outcomes.{gives-refused, gives-done, adds-told}
 use borrow.Author.Needs.{needs}
 use Rattle.host.proofs.add_in.Statement.{statement}

@@ -2,7 +2,7 @@
 use mathlib.Core.Path.{ap, _∙_}
 use denote.Ref.{now}
 use Rattle.sketch.specs.Estimates.{estimateOn}
-use Rattle.host.proofs.Crossings.{parts-in}
+use Rattle.crossing.proofs.Crossings.{parts-in}
 use borrow.Author.Needs.{needs}
 use Rattle.host.proofs.estimate_in.Statement.{statement}
 use Rattle.host.proofs.estimate_in.Tie as tie

@@ -9,8 +9,8 @@ use lib.Seq.{length-take-le}
 use Rattle.rule.specs.Refusals.{answered, ofAnswer}
 use Rattle.sketch.specs.Calls.{mergeWhen}
 use Rattle.sketch.proofs.Handing.{merge-granted}
-use Rattle.host.specs.Crossing.{sketchRow}
-use Rattle.host.proofs.Crossings.{row-kept-in}
+use Rattle.crossing.specs.Crossing.{sketchRow}
+use Rattle.crossing.proofs.Crossings.{row-kept-in}
 use Rattle.host.proofs.Outcomes.{gives-refused, gives-done, merges-told, merges-kept}
 use borrow.Author.Needs.{needs}
 use Rattle.host.proofs.merge_in.Statement.{statement}

@@ -32,13 +32,14 @@ use Rattle.row.proofs.is_done.Symbol as done-def
 use Rattle.row.proofs.is_done.Symbol.{name as #done}
 use Rattle.row.proofs.is_done.Met as done-thm
 use Rattle.host.specs.declared.stretches.Asked.{Asked}
-use Rattle.host.specs.declared.told.ToldPlace.{ToldPlace}
-use Rattle.host.specs.Crossing.{sketchIn, sketchRow, askedOf, Crosses, AddsRow}
+use Rattle.crossing.specs.declared.told.ToldPlace.{ToldPlace}
+use Rattle.crossing.specs.Crossing.{sketchIn, sketchRow, Crosses}
+use Rattle.host.specs.Promises.{askedOf, AddsRow}
 use Rattle.host.proofs.Stretching.{row-refused, row-takes, row-done}
 use Rattle.host.proofs.Data.{Numbers, numbers, numbersLoan, asked, place}
 use Rattle.host.proofs.stretches.Asked as K
 use Rattle.host.proofs.stretches.Asked.Laws as K′
-use Rattle.host.proofs.told.ToldPlace.Laws as L′
+use Rattle.crossing.proofs.told.ToldPlace.Laws as L′
 use Rattle.host.proofs.stretches.asked_in as ask
 use Rattle.host.proofs.stretches.asked_in.Symbol as ask-def
 use Rattle.host.proofs.stretches.asked_in.Symbol.{name as #ask}
@@ -47,10 +48,10 @@ use Rattle.host.proofs.stretches.add_each_in as each
 use Rattle.host.proofs.stretches.add_each_in.Symbol as each-def
 use Rattle.host.proofs.stretches.add_each_in.Symbol.{name as #each}
 use Rattle.host.proofs.stretches.add_each_in.Met as each-thm
-use Rattle.host.proofs.told.told_place as tell
-use Rattle.host.proofs.told.told_place.Symbol as tell-def
-use Rattle.host.proofs.told.told_place.Symbol.{name as #tell}
-use Rattle.host.proofs.told.told_place.Met as tell-thm
+use Rattle.crossing.proofs.told.told_place as tell
+use Rattle.crossing.proofs.told.told_place.Symbol as tell-def
+use Rattle.crossing.proofs.told.told_place.Symbol.{name as #tell}
+use Rattle.crossing.proofs.told.told_place.Met as tell-thm
 use Rattle.host.proofs.pot_add_row.Key.{name as #f}
 use Rattle.host.proofs.pot_add_row as f
 use Rattle.host.proofs.pot_add_row.Statement as stated
@@ -288,4 +289,4 @@ pot-add-row-spec 𝓤 H 𝓜 𝓖 𝓡 =
     (cited 𝓤 H (calls.Asked 𝓤 H (𝓖 .A) (𝓜 .mem) (𝓡 .run)) 𝓜 𝓡 code.env #answer answer-def.routine code.calls-row·row-answer (answer-thm.met 𝓤 H 𝓜 𝓖 𝓡))
     (cited 𝓤 H (calls.Told 𝓤 H (𝓖 .A) (𝓜 .mem) (𝓡 .run)) 𝓜 𝓡 code.env #done done-def.routine code.calls-row·is-done (done-thm.met 𝓤 H 𝓜 𝓖 𝓡))
     (cited 𝓤 H (Each 𝓤 H (𝓖 .A) (𝓜 .mem) (𝓡 .run)) 𝓜 𝓡 code.env #each each-def.routine code.calls-host·stretches·add-each-in (each-thm.met 𝓤 H 𝓜 𝓖 𝓡))
-    (cited 𝓤 H (Tell 𝓤 H (𝓖 .A) (𝓜 .mem) (𝓡 .run)) 𝓜 𝓡 code.env #tell tell-def.routine code.calls-host·told·told-place (tell-thm.met 𝓤 H 𝓜 𝓖 𝓡)))
+    (cited 𝓤 H (Tell 𝓤 H (𝓖 .A) (𝓜 .mem) (𝓡 .run)) 𝓜 𝓡 code.env #tell tell-def.routine code.calls-crossing·told·told-place (tell-thm.met 𝓤 H 𝓜 𝓖 𝓡)))

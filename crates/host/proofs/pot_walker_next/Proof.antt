@@ -1,7 +1,7 @@
 -- `host::pot_walker_next` meets its contract: the hit and the walker after it cross. Assumes nothing.
 use mathlib.Core.Path.{ap, _∙_}
 use borrow.Author.Needs.{needs}
-use Rattle.host.specs.Crossing.{walkerRow}
+use Rattle.crossing.specs.Crossing.{walkerRow}
 use Rattle.host.proofs.Outcomes.{told}
 use Rattle.host.proofs.pot_walker_next.Statement.{statement}
 use Rattle.host.proofs.pot_walker_next.Tie as tie

@@ -4,8 +4,8 @@ use mathlib.Core.List.{List}
 use Prim.Native.Nat.{ℕ}
 use denote.Ref.{now}
 use Rattle.sketch.specs.Sketches.{held}
-use Rattle.host.specs.Crossing.{sketchRow}
-use Rattle.host.proofs.Crossings.{cells-lent}
+use Rattle.crossing.specs.Crossing.{sketchRow}
+use Rattle.crossing.proofs.Crossings.{cells-lent}
 use borrow.Author.Needs.{needs}
 use Rattle.host.proofs.read_in.Statement.{statement}
 use Rattle.host.proofs.read_in.Tie as tie

@@ -3,7 +3,7 @@ use mathlib.Core.Path.{subst}
 use denote.Ref.{now}
 use Rattle.sketch.specs.declared.Sketch.{Sketch}
 use Rattle.image.specs.Calls.{Writes}
-use Rattle.host.proofs.Crossings.{parts-in}
+use Rattle.crossing.proofs.Crossings.{parts-in}
 use borrow.Author.Needs.{needs}
 use Rattle.host.proofs.write_in.Statement.{statement}
 use Rattle.host.proofs.write_in.Tie as tie

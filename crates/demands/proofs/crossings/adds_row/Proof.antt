@@ -13,8 +13,8 @@ use Rattle.lent.proofs.Walk.{Ok, had, calls-out}
 use Rattle.row.specs.declared.Stretch.{Stretch}
 use Rattle.row.proofs.Lent.{loan, loanVal, Own, Token}
 use Rattle.row.proofs.Stretch as S
-use Rattle.host.specs.declared.told.ToldPlace.{ToldPlace}
-use Rattle.host.specs.Crossing.{AddsRow}
+use Rattle.crossing.specs.declared.told.ToldPlace.{ToldPlace}
+use Rattle.host.specs.Promises.{AddsRow}
 use Rattle.host.proofs.Data.{Numbers, numbersLoan, place}
 use Rattle.host.proofs.pot_add_row as g
 use Rattle.host.proofs.pot_add_row.Symbol as g-def

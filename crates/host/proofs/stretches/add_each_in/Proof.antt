@@ -28,7 +28,7 @@ use Rattle.row.proofs.Data.{stretch, word32}
 use Rattle.row.proofs.Lent.{loan, loanVal, slice, less, left, scaled, next-fits}
 use Rattle.row.proofs.Stretch as S
 use Rattle.row.proofs.Stretch.Laws as S′
-use Rattle.host.specs.Crossing.{sketchIn, sketchRow}
+use Rattle.crossing.specs.Crossing.{sketchIn, sketchRow}
 use Rattle.host.proofs.Stretching.{Ran, ran-first, ran-takes, ran-on, ran-end}
 use Rattle.host.proofs.Data.{Numbers, numbers, numbersLoan}
 use denote.Struct.Laws as LL

@@ -7,8 +7,8 @@ use Rattle.rule.specs.declared.Settings.{Settings}
 use Rattle.find.specs.Finding.{inRange}
 use Rattle.sketch.specs.Sketches.{held}
 use Rattle.sketch.proofs.Facts.{facts-sketch}
-use Rattle.host.specs.Crossing.{sketchRow}
-use Rattle.host.proofs.Crossings.{settings-of-row, row-kept-in, cells-lent}
+use Rattle.crossing.specs.Crossing.{sketchRow}
+use Rattle.crossing.proofs.Crossings.{settings-of-row, row-kept-in, cells-lent}
 use Rattle.host.proofs.Outcomes.{adds-kept}
 use borrow.Author.Needs.{needs}
 use Rattle.host.proofs.stretches.add_known.Statement.{statement}

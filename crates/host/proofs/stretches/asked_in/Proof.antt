@@ -1,5 +1,5 @@
 -- `host::stretches::asked_in` meets its contract. Assumes nothing.
-use Rattle.host.proofs.Crossings.{settings-of-row}
+use Rattle.crossing.proofs.Crossings.{settings-of-row}
 use borrow.Author.Needs.{needs}
 use Rattle.host.proofs.stretches.asked_in.Statement.{statement}
 use Rattle.host.proofs.stretches.asked_in.Tie as tie

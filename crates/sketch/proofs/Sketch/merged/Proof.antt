@@ -4,7 +4,7 @@ use native.Mathlib.Omega.{arith}
 use lib.ListN.{length, take}
 use lib.Seq.{length-take-le}
 use Rattle.lists.proofs.Stores.{stored-whole}
-use Rattle.sketch.specs.Settling.{KeptIn}
+use Rattle.settle.specs.Settling.{KeptIn}
 use Rattle.sketch.specs.Sketches.{held, keptOf}
 use Rattle.sketch.proofs.Handing.{row-kept, kept-merge}
 use borrow.Author.Needs.{needs}
