@@ -2,7 +2,8 @@
 -- what was given comes back unchanged, opening and reading hand back all zeros, lent memory stays as it was.
 --     count-lawful, next-lawful, start-lawful, step-lawful, open-lawful, add-lawful, row-lawful, merge-lawful, estimate-lawful,
 --     write-lawful, read-lawful
---     numbers         the numbers of the refusals
+--     plain-count-lawful, plain-next-lawful, plain-add-lawful     the plain engine
+--     numbers, limit-is     the numbers of the refusals, and the plain engine's limit
 --     before-first, first-is-wrong    7 names the first block whose check is wrong
 --     row-before, row-is-bad    a row's 2 names the first stretch that isn't in range
 --     sketch-zeros, walker-zeros      the value of all zeros
@@ -40,12 +41,13 @@ use Rattle.row.specs.declared.Stretch.{Stretch}
 use Rattle.row.specs.declared.RowChanged.{RowChanged}
 use Rattle.row.specs.Stretches.{within, firstBad, addAll, rowOn, HandsRow}
 use Rattle.row.proofs.Places.{none, all-by-place, bad-there, good-before}
+use Rattle.plain.specs.Plain.{limit, plainCountOn, plainNextOn, plainAddOn}
 use Rattle.image.specs.declared.Loaded.{Loaded}
 use Rattle.image.specs.Images.{imageOf}
 use Rattle.image.specs.Shapes.{blockAt, blocksIn, firstWrong}
 use Rattle.image.specs.Calls.{writeOn, readOn, readMarked, Writes, Reads}
 use Rattle.demands.specs.Causes.{Rule, Lawful, countRules, nextRules, stepRules, openRules, addRules, rowRules, mergeRules, estimateRules, writeRules}
-use Rattle.demands.specs.Causes.{readRules}
+use Rattle.demands.specs.Causes.{readRules, plainCountRules, plainNextRules, plainAddRules}
 
 -- the first broken rule refuses
 judged : {Told : Type 0} → List Rule → Told → Outcome Told
@@ -143,6 +145,23 @@ pub row-lawful : (k : Sketch) (ts : List Stretch) → Lawful (rowOn k ts) (rowRu
 unfolding rowOn judged
 row-lawful k ts = by-rules (rowOn k ts) (rowRules k ts) ([]) (simp unless-cond)
 
+-- the plain engine: 1 above its limit
+pub plain-count-lawful : (s : Settings) (level lo hi : ℕ)
+    → Lawful (plainCountOn s level lo hi) (plainCountRules s level lo hi) (rangeCount s level lo hi ∷ [])
+unfolding plainCountOn countOn judged
+plain-count-lawful s level lo hi =
+    by-rules (plainCountOn s level lo hi) (plainCountRules s level lo hi) (rangeCount s level lo hi ∷ []) (simp unless-cond)
+
+pub plain-next-lawful : (s : Settings) (level from : ℕ)
+    → Lawful (plainNextOn s level from) (plainNextRules s level from) (hits (nextHit s level from (s .n)))
+unfolding plainNextOn nextOn judged
+plain-next-lawful s level from =
+    by-rules (plainNextOn s level from) (plainNextRules s level from) (hits (nextHit s level from (s .n))) (simp unless-cond)
+
+pub plain-add-lawful : (k : Sketch) (lo hi : ℕ) → Lawful (plainAddOn k lo hi) (plainAddRules k lo hi) ([])
+unfolding plainAddOn judged
+plain-add-lawful k lo hi = by-rules (plainAddOn k lo hi) (plainAddRules k lo hi) ([]) (simp unless-cond)
+
 pub merge-lawful : (j k : Sketch) → Lawful (mergeOn j k) (mergeRules j k) ([])
 unfolding mergeOn judged
 merge-lawful j k = by-rules (mergeOn j k) (mergeRules j k) ([]) (simp unless-cond)
@@ -190,6 +209,9 @@ room-back k room after r number place h e = let p = h .contents in cc
 -- the numbers, as they are told to those outside
 pub numbers : (badSettings ∷ badRange ∷ badLevel ∷ notOne ∷ unequal ∷ noRoom ∷ badCheck ∷ badImage ∷ badLine ∷ []) ≡ (1 ∷ 2 ∷ 3 ∷ 4 ∷ 5 ∷ 6 ∷ 7 ∷ 8 ∷ 9 ∷ [])
 numbers = refl
+
+pub limit-is : limit ≡ 4096
+limit-is = refl
 
 -- 7 names the first wrong block: every block before it is right
 pub before-first : (s : List ℕ) (j : ℕ) → j < firstWrong s → blockGood (blockAt j s) ≡ true

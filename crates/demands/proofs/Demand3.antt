@@ -1,4 +1,4 @@
--- Demand 3, over all histories of opening, adding, adding rows, merging and reading back. What it says of rows besides is in Rows.antt.
+-- Demand 3, over all histories of opening, adding by either engine, adding rows, merging and reading back. What it says of rows besides is in Rows.antt.
 --     made-good, made-sketch    a history has good settings, and its sketch is one
 --     the-sketch      a history's sketch is the sketch of all cells added
 --  1  exact, lowest-is    its level is the lowest at which the passing cells among them fit, and its sample is exactly those
@@ -9,7 +9,7 @@
 --  4  merge-made, merge-order, merge-grouping, merge-repeat    order, grouping and repeats of merges make no difference
 -- Assumes nothing.
 use mathlib.Core.Path.{_≡_, refl, sym, ap, _∙_, subst, fun-ext}
-use mathlib.Core.Bool.{Bool, true, false, _&&_, _||_, or-comm, or-assoc, or-self, or-false, false≢true}
+use mathlib.Core.Bool.{Bool, true, false, _&&_, _||_, or-comm, or-assoc, or-self, or-false, false≢true, cond}
 use mathlib.Core.Logic.{_⊎_, inl, inr, ⊎-elim}
 use mathlib.Core.List.{List, []}
 use Prim.Native.Nat.{ℕ, _≤_}
@@ -36,17 +36,20 @@ use Rattle.sketch.specs.Calls.{noSketch, openOn, addOn, mergeOn, sameSettings, 
 use Rattle.sketch.proofs.Facts.{facts-sketch, facts-same}
 use Rattle.sketch.proofs.Making.{sketchOf, sound, cells-from, open-law, add-law, merge-law}
 use Rattle.sketch.proofs.Handing.{add-bad, merge-both}
+use Rattle.plain.specs.Plain.{isSmall, plainAddOn}
+use Rattle.plain.proofs.Calls.{plain-bad}
 use Rattle.row.specs.Stretches.{allIn, firstBad, addAll, rowCells, rowOn}
 use Rattle.row.proofs.Runs.{add-all-law, row-cells-in}
 use Rattle.row.proofs.Rows.{row-bad}
 use Rattle.image.specs.Images.{imageAs, imageOf}
 use Rattle.demands.proofs.Demand2.{wrote, handed-next, sketch-round-trip}
-use Rattle.demands.specs.Histories.{Made, imageFor, HasImage, brings, opening, adding, rowing, merging, refusing, reading}
+use Rattle.demands.specs.Histories.{Made, imageFor, HasImage, brings, opening, adding, plainly, rowing, merging, refusing, reading}
 
 pub made-good : (s : Settings) (X : Cells) (k : Sketch) → Made s X k → Good s
 unfolding openOn
 made-good s X k (opening r h e) = good-facts s (unless-told (isGood s) badSettings (answered []) [] (sym (h .answer) ∙ e) .0)
 made-good s X k (adding {X = Y} {k = j} m lo hi r h) = made-good s Y j m
+made-good s X k (plainly {X = Y} {k = j} m lo hi r h) = made-good s Y j m
 made-good s X k (rowing {X = Y} {k = j} m ts r h) = made-good s Y j m
 made-good s X k (merging {X = Y} {Y = Z} {j = i} {k = j} m n r h) = made-good s Y i m
 made-good s X k (refusing {X = Y} {j = j} m i r h number place e) = made-good s Y j m
@@ -74,12 +77,16 @@ module _ (s : Settings) (good : Good s) where
   gains X Y (answered values) next old k o n h = h ∙ n
   gains X Y (refused number place) next old k o n h = h ∙ o ∙ ap (sketchOf s) (fun-ext (λ x. sym (or-false (X x))))
 
+  -- adding, whatever it answers
+  adds : (X : Cells) (paper : Paper) (lo hi : ℕ) (old k : Sketch) → old ≡ sketchOf s X → k ≡ handed paper (add old lo hi) old
+      → k ≡ sketchOf s (X ∪ brings paper (interval lo hi))
+  adds X paper lo hi old k o h =
+      gains X (interval lo hi) paper (add old lo hi) old k o (ap (λ (v : Sketch). add v lo hi) o ∙ add-law s good X 0 lo hi (omega arith)) h
+
   pub the-sketch : (X : Cells) (k : Sketch) → Made s X k → k ≡ sketchOf s X
   the-sketch X k (opening r h e) = opens r h e
-  the-sketch X k (adding {X = Y} {k = j} m lo hi r h) =
-      let ih : j ≡ sketchOf s Y = the-sketch Y j m in
-      gains Y (interval lo hi) (addOn j lo hi) (add j lo hi) j (r .sketch) ih
-      (ap (λ (v : Sketch). add v lo hi) ih ∙ add-law s good Y 0 lo hi (omega arith)) (h .sketch)
+  the-sketch X k (adding {X = Y} {k = j} m lo hi r h) = adds Y (addOn j lo hi) lo hi j (r .sketch) (the-sketch Y j m) (h .sketch)
+  the-sketch X k (plainly {X = Y} {k = j} m lo hi r h) = adds Y (plainAddOn j lo hi) lo hi j (r .sketch) (the-sketch Y j m) (h .sketch)
   the-sketch X k (rowing {X = Y} {k = j} m ts r h) =
       let ih : j ≡ sketchOf s Y = the-sketch Y j m in
       gains Y (rowCells ts) (rowOn j ts) (addAll j ts) j (r .sketch) ih
@@ -156,19 +163,29 @@ exact s X k h =
     let e : k ≡ sketchOf s X = the-sketch s (made-good s X k h) X k h in
     (ap (λ (v : Sketch). v .settings) e, ap (λ (v : Sketch). v .level) e, ap cellsOf e ∙ cells-from s X 0)
 
+-- an add that brought a cell was given a stretch in range
+in-stretch : (s : Settings) (j : Sketch) → j .settings ≡ s → (lo hi : ℕ) (paper : Paper) (number : ℕ)
+    → (inRange (j .settings) lo hi ≡ false → paper ≡ refused number 0) → (x : ℕ) → brings paper (interval lo hi) x ≡ true → (1 ≤ x) × (x ≤ s .n)
+in-stretch s j e lo hi paper number f x w =
+    let b = range-facts (j .settings) lo hi (granted (inRange (j .settings) lo hi) paper number 0 (interval lo hi) x f w) in
+    let l : j .settings .n ≡ s .n = ap (λ (q : Settings). q .n) e in
+    let c = and-parts (leb lo x) (leb x hi) (brought paper (interval lo hi) x w) in
+    (omega (arith, leb-true lo x (c .0)), omega (arith, leb-true x hi (c .1)))
+
 -- only cells of 1..n are added, so the sample leaves out none of the added cells that pass
 pub added-in-grid : (s : Settings) (X : Cells) (k : Sketch) → Made s X k → (x : ℕ) → X x ≡ true → (1 ≤ x) × (x ≤ s .n)
 added-in-grid s X k (opening r h e) x m = absurd (false≢true m)
 added-in-grid s X k (adding {X = Y} {k = j} a lo hi r h) x m =
     ⊎-elim
     (λ (w : Y x ≡ true). added-in-grid s Y j a x w)
-    (λ (w : brings (addOn j lo hi) (interval lo hi) x ≡ true).
-    let t = granted (inRange (j .settings) lo hi) (addOn j lo hi) badRange 0 (interval lo hi) x (add-bad j lo hi (made-sketch s Y j a)) w in
-    let b = range-facts (j .settings) lo hi t in
-    let l : j .settings .n ≡ s .n = ap (λ (q : Settings). q .n) (exact s Y j a .0) in
-    let c = and-parts (leb lo x) (leb x hi) (brought (addOn j lo hi) (interval lo hi) x w) in
-    (omega (arith, leb-true lo x (c .0)), omega (arith, leb-true x hi (c .1))))
+    (λ w. in-stretch s j (exact s Y j a .0) lo hi (addOn j lo hi) badRange (add-bad j lo hi (made-sketch s Y j a)) x w)
     (or-cases (Y x) (brings (addOn j lo hi) (interval lo hi) x) m)
+added-in-grid s X k (plainly {X = Y} {k = j} a lo hi r h) x m =
+    ⊎-elim
+    (λ (w : Y x ≡ true). added-in-grid s Y j a x w)
+    (λ w. in-stretch s j (exact s Y j a .0) lo hi (plainAddOn j lo hi) (cond (isSmall (j .settings)) badRange badSettings)
+    (plain-bad j lo hi (made-sketch s Y j a)) x w)
+    (or-cases (Y x) (brings (plainAddOn j lo hi) (interval lo hi) x) m)
 added-in-grid s X k (rowing {X = Y} {k = j} a ts r h) x m =
     ⊎-elim
     (λ (w : Y x ≡ true). added-in-grid s Y j a x w)

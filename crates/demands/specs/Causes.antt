@@ -18,6 +18,7 @@ use Rattle.sketch.specs.Sketches.{isSketch}
 use Rattle.sketch.specs.Calls.{sameSettings}
 use Rattle.row.specs.declared.Stretch.{Stretch}
 use Rattle.row.specs.Stretches.{allIn, firstBad}
+use Rattle.plain.specs.Plain.{isSmall}
 use Rattle.image.specs.Images.{imageOf, saidSettings}
 use Rattle.image.specs.Shapes.{blocksIn, firstWrong}
 use Rattle.image.specs.Calls.{rightLength, marked, isImage}
@@ -79,6 +80,17 @@ addRules k lo hi = rule (isSketch k) notOne ∷ rule (inRange (k .settings) lo h
 
 abbrev pub rowRules : Sketch → List Stretch → List Rule
 rowRules k ts = rule (isSketch k) notOne ∷ ruleAt (allIn (k .settings) ts) badRange (firstBad (k .settings) ts) ∷ []
+
+-- of the plain engine: 1 also where n is above its limit; on a sketch 4 comes before that
+
+abbrev pub plainCountRules : Settings → ℕ → ℕ → ℕ → List Rule
+plainCountRules s level lo hi = rule (isSmall s) badSettings ∷ countRules s level lo hi
+
+abbrev pub plainNextRules : Settings → ℕ → ℕ → List Rule
+plainNextRules s level from = rule (isSmall s) badSettings ∷ nextRules s level from
+
+abbrev pub plainAddRules : Sketch → ℕ → ℕ → List Rule
+plainAddRules k lo hi = rule (isSketch k) notOne ∷ rule (isSmall (k .settings)) badSettings ∷ rule (inRange (k .settings) lo hi) badRange ∷ []
 
 abbrev pub mergeRules : Sketch → Sketch → List Rule
 mergeRules j k = rule (isSketch j) notOne ∷ rule (isSketch k) notOne ∷ rule (sameSettings (j .settings) (k .settings)) unequal ∷ []

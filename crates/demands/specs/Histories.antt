@@ -16,6 +16,7 @@ use Rattle.sketch.specs.Calls.{noSketch, openOn, addOn, mergeOn, Hands}
 use Rattle.row.specs.declared.Stretch.{Stretch}
 use Rattle.row.specs.declared.RowChanged.{RowChanged}
 use Rattle.row.specs.Stretches.{rowOn, addAll, rowCells, HandsRow}
+use Rattle.plain.specs.Plain.{plainAddOn}
 use Rattle.image.specs.declared.Loaded.{Loaded}
 use Rattle.image.specs.Images.{imageAs, imageOf}
 use Rattle.image.specs.Calls.{Writes, Reads}
@@ -31,6 +32,9 @@ pub data Made (s : Settings) : Cells → Sketch → Type 0 where
   -- answered or refused
   adding : {X : Cells} {k : Sketch} → Made s X k → (lo hi : ℕ) (r : Changed) → Hands (addOn k lo hi) (add k lo hi) k r
       → Made s (X ∪ brings (addOn k lo hi) (interval lo hi)) (r .sketch)
+  -- the same by the plain engine
+  plainly : {X : Cells} {k : Sketch} → Made s X k → (lo hi : ℕ) (r : Changed) → Hands (plainAddOn k lo hi) (add k lo hi) k r
+      → Made s (X ∪ brings (plainAddOn k lo hi) (interval lo hi)) (r .sketch)
   -- a row of stretches, answered or refused
   rowing : {X : Cells} {k : Sketch} → Made s X k → (ts : List Stretch) (r : RowChanged) → HandsRow (rowOn k ts) (addAll k ts) k r
       → Made s (X ∪ brings (rowOn k ts) (rowCells ts)) (r .sketch)

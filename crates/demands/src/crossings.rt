@@ -1,8 +1,9 @@
 // The calls of the boundary, tied to their promises.
 ghost use Rattle.find.specs.Finding.{countOn, nextOn};
 ghost use Rattle.sketch.specs.Estimates.{estimateOn};
+ghost use Rattle.plain.specs.Plain.{plainCountOn, plainNextOn};
 ghost use Rattle.crossing.specs.Crossing.{settingsFrom, sketchIn, walkerIn, Crosses, Weighs};
-ghost use Rattle.host.specs.Promises.{Opens, Adds, AddsRow, Merges, ReadsIn, WritesOut, Begins, Moves};
+ghost use Rattle.host.specs.Promises.{Opens, Adds, PlainAdds, AddsRow, Merges, ReadsIn, WritesOut, Begins, Moves};
 use crossing::SETTINGS;
 use crossing::SKETCH;
 use crossing::WALKER;
@@ -24,6 +25,12 @@ pub fn adds(sketch: &mut [u32; SKETCH], lo: u32, hi: u32) -> u32
     ensures { λ r. ⌜ Adds (now (sketch .entry)) lo hi r (now (sketch .exit)) ⌝ }
 {
     host::pot_add(sketch, lo, hi)
+}
+
+pub fn plain_adds(sketch: &mut [u32; SKETCH], lo: u32, hi: u32) -> u32
+    ensures { λ r. ⌜ PlainAdds (now (sketch .entry)) lo hi r (now (sketch .exit)) ⌝ }
+{
+    host::pot_plain_add(sketch, lo, hi)
 }
 
 pub fn adds_row(sketch: &mut [u32; SKETCH], row: &[Stretch]) -> ToldPlace
@@ -54,6 +61,18 @@ pub fn finds(settings: &[u32; SETTINGS], level: u32, from: u32) -> ToldValue
     ensures { λ r. ⌜ Crosses (nextOn (settingsFrom (now (settings .entry))) level from) (r .number) (r .value) ⌝ }
 {
     host::pot_next_hit(settings, level, from)
+}
+
+pub fn plain_counts(settings: &[u32; SETTINGS], level: u32, lo: u32, hi: u32) -> ToldValue
+    ensures { λ r. ⌜ Crosses (plainCountOn (settingsFrom (now (settings .entry))) level lo hi) (r .number) (r .value) ⌝ }
+{
+    host::pot_plain_count(settings, level, lo, hi)
+}
+
+pub fn plain_finds(settings: &[u32; SETTINGS], level: u32, from: u32) -> ToldValue
+    ensures { λ r. ⌜ Crosses (plainNextOn (settingsFrom (now (settings .entry))) level from) (r .number) (r .value) ⌝ }
+{
+    host::pot_plain_next_hit(settings, level, from)
 }
 
 pub fn starts(

@@ -12,6 +12,7 @@ ghost use Rattle.row.specs.Stretches.{addAll, rowWhen, rowOn, HandsRow};
 ghost use Rattle.image.specs.Calls.{Writes, Reads};
 
 pub mod crossings;
+pub mod engines;
 pub mod rules;
 pub mod walkers;
 

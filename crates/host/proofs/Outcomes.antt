@@ -1,7 +1,7 @@
 -- The laws of what comes back.
 --     told, given, begun    an inner call's promise gives the boundary's: a number with a value, with a sketch's row, with a walker's
 --     gives-refused, gives-done    adding and merging, by their answer
---     adds-told, merges-told, adds-kept, merges-kept    what they answer and keep on the rows lent
+--     adds-told, plain-adds-told, merges-told, adds-kept, merges-kept    what they answer and keep on the rows lent
 --     double-stands    the double of a sketch is the number of cells that it stands for
 --     double-worth     with nothing lost
 -- Assumes nothing.
@@ -34,6 +34,8 @@ use Rattle.sketch.specs.Estimates.{standsFor, estimateOn}
 use Rattle.sketch.proofs.Facts.{sketch-facts, count-few}
 use Rattle.sketch.proofs.Handing.{add-told, merge-told, kept-add, kept-merge}
 use Rattle.sketch.proofs.Worth.{level-small, stands-at-zero, worth-about, weighs-exact, weighs-about}
+use Rattle.plain.specs.Plain.{plainAddWhen, plainAddOn}
+use Rattle.plain.proofs.Calls.{plain-told}
 use Rattle.crossing.specs.Crossing.{settingsFrom, sketchRow, sketchIn, walkerRow, toldNumber, doubleOf, Crosses}
 use Rattle.host.specs.Promises.{Gives, Begins}
 use Rattle.crossing.proofs.Crossings.{row-again}
@@ -59,6 +61,10 @@ module _ (row : List ℕ) {known : Bool} {s : Settings} (e : s ≡ settingsFrom 
   pub adds-told : (lo hi : ℕ) → paper ≡ addWhen known s lo hi → paper ≡ addOn (sketchIn row) lo hi
   unfolding sketchIn
   adds-told lo hi q = add-told (sketchIn row) lo hi k (rw e at q)
+
+  pub plain-adds-told : (lo hi : ℕ) → paper ≡ plainAddWhen known s lo hi → paper ≡ plainAddOn (sketchIn row) lo hi
+  unfolding sketchIn
+  plain-adds-told lo hi q = plain-told (sketchIn row) lo hi k (rw e at q)
 
   pub merges-told : (other : List ℕ) {its : Bool} {t : Settings} → t ≡ settingsFrom other → its ≡ isSketch (sketchIn other) → paper ≡ mergeWhen known s its t
       → paper ≡ mergeOn (sketchIn row) (sketchIn other)

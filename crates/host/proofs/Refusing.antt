@@ -1,6 +1,7 @@
 -- What a refusal leaves. Where a call's number isn't 0, its values are 0, and no lent memory has changed,
 -- but for the row that opening and reading hand back as zeros.
 --     count-zero, hit-zero, cell-zero, length-zero, estimate-zero    the values of `pot_count`, `pot_next_hit`, `pot_walker_next`, `pot_write`, `pot_estimate`
+--     plain-count-zero, plain-hit-zero    those of `pot_plain_count`, `pot_plain_next_hit`
 --     block-seven, place-two    `pot_read` names a block with 7 alone, and `pot_add_row` a place with 2 alone
 --     sketch-left, row-left, walker-left, room-left    what adding and merging, adding a row, a walker's step and writing were lent
 --     sketch-zeroed, read-zeroed, walker-zeroed    what opening, reading and opening a walker hand back
@@ -27,6 +28,7 @@ use Rattle.sketch.specs.Sketches.{isSketch}
 use Rattle.sketch.specs.Calls.{noSketch, handed}
 use Rattle.row.specs.declared.Stretch.{Stretch}
 use Rattle.row.specs.Stretches.{allIn, firstBad, addAll, rowOn}
+use Rattle.plain.specs.Plain.{isSmall, plainCountOn, plainNextOn}
 use Rattle.image.specs.Images.{imageOf, saidSettings, spelled}
 use Rattle.image.specs.Shapes.{blocksIn, firstWrong}
 use Rattle.image.specs.Calls.{writeOn, roomAfter, rightLength, marked, isImage, readMarked, readOn}
@@ -51,18 +53,32 @@ bare-settings : (s : Settings) (level : ℕ) (inside : Bool) (values : List ℕ)
 bare-settings s level inside values =
     bare-unless (isGood s) badSettings _ (bare-unless (leb level (top s)) badLevel _ (bare-unless inside badRange _ (bare-answer values)))
 
+bare-count : (s : Settings) (level lo hi : ℕ) → Bare (countOn s level lo hi)
+unfolding countOn
+bare-count s level lo hi = bare-settings s level (inRange s lo hi) (rangeCount s level lo hi ∷ [])
+
+bare-hit : (s : Settings) (level from : ℕ) → Bare (nextOn s level from)
+unfolding nextOn
+bare-hit s level from = bare-settings s level (isCell s from) (hits (nextHit s level from (s .n)))
+
 module _ {r v : ℕ} (refusal : 0 < r) where
   bare-zero : {paper : Paper} → Bare paper → Crosses paper r v → v ≡ 0
   unfolding Bare
   bare-zero b c = c .value ∙ b (subst (λ (m : ℕ). 0 < m) (c .number) refusal)
 
   pub count-zero : (s : Settings) (level lo hi : ℕ) → Crosses (countOn s level lo hi) r v → v ≡ 0
-  unfolding countOn
-  count-zero s level lo hi = bare-zero (bare-settings s level (inRange s lo hi) (rangeCount s level lo hi ∷ []))
+  count-zero s level lo hi = bare-zero (bare-count s level lo hi)
 
   pub hit-zero : (s : Settings) (level from : ℕ) → Crosses (nextOn s level from) r v → v ≡ 0
-  unfolding nextOn
-  hit-zero s level from = bare-zero (bare-settings s level (isCell s from) (hits (nextHit s level from (s .n))))
+  hit-zero s level from = bare-zero (bare-hit s level from)
+
+  pub plain-count-zero : (s : Settings) (level lo hi : ℕ) → Crosses (plainCountOn s level lo hi) r v → v ≡ 0
+  unfolding plainCountOn
+  plain-count-zero s level lo hi = bare-zero (bare-unless (isSmall s) badSettings (countOn s level lo hi) (bare-count s level lo hi))
+
+  pub plain-hit-zero : (s : Settings) (level from : ℕ) → Crosses (plainNextOn s level from) r v → v ≡ 0
+  unfolding plainNextOn
+  plain-hit-zero s level from = bare-zero (bare-unless (isSmall s) badSettings (nextOn s level from) (bare-hit s level from))
 
   pub cell-zero : {after : List ℕ} (w : Walker) → Moves w r v after → v ≡ 0
   unfolding stepOn

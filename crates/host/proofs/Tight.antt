@@ -1,6 +1,6 @@
 -- Two outcomes that one promise allows coincide.
---     gives-tight    `pot_open`, `pot_add`, `pot_merge`: the number and the row
---     crosses-tight    `pot_count`, `pot_next_hit`: the number and the value
+--     gives-tight    `pot_open`, `pot_add`, `pot_plain_add`, `pot_merge`: the number and the row
+--     crosses-tight    `pot_count`, `pot_next_hit` and those of the plain engine: the number and the value
 --     writes-tight, reads-tight    `pot_write`, `pot_read`
 --     adds-row-tight    `pot_add_row`: the number, the place and the row
 --     starts-tight, steps-tight    `pot_walker_open`, `pot_walker_next`

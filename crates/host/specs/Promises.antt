@@ -11,6 +11,7 @@ use Rattle.find.specs.Walking.{walkerAt, startOn, started, stepOn, afterStep}
 use Rattle.sketch.specs.declared.Sketch.{Sketch}
 use Rattle.sketch.specs.Sketches.{isSketch, opened, add, merge}
 use Rattle.sketch.specs.Calls.{noSketch, handed, openOn, addOn, mergeOn}
+use Rattle.plain.specs.Plain.{plainAddOn}
 use Rattle.row.specs.declared.Stretch.{Stretch}
 use Rattle.row.specs.Stretches.{addAll, rowOn}
 use Rattle.image.specs.Images.{spelled}
@@ -34,6 +35,10 @@ Opens settings r after = Gives (openOn (settingsFrom settings)) (opened (setting
 -- what adding promises, on the row lent
 abbrev pub Adds : List ℕ → ℕ → ℕ → ℕ → List ℕ → Type 0
 Adds before lo hi r after = Gives (addOn (sketchIn before) lo hi) (add (sketchIn before) lo hi) (sketchIn before) r after
+
+-- what adding by the plain engine promises, on the row lent
+abbrev pub PlainAdds : List ℕ → ℕ → ℕ → ℕ → List ℕ → Type 0
+PlainAdds before lo hi r after = Gives (plainAddOn (sketchIn before) lo hi) (add (sketchIn before) lo hi) (sketchIn before) r after
 
 -- what adding a row of stretches promises, on the row lent
 pub record AddsRow (before : List ℕ) (ts : List Stretch) (r place : ℕ) (after : List ℕ) : Type 0 where

@@ -5,9 +5,10 @@ ghost use mathlib.Core.Path.{_≡_};
 ghost use lib.ListN.{length};
 ghost use Rattle.find.specs.Finding.{countOn, nextOn};
 ghost use Rattle.sketch.specs.Estimates.{ofEstimate, estimateOn};
+ghost use Rattle.plain.specs.Plain.{plainCountOn, plainNextOn};
 ghost use Rattle.image.specs.Calls.{Writes};
 ghost use Rattle.crossing.specs.Crossing.{settingsFrom, sketchIn, walkerIn, Crosses, Weighs};
-ghost use Rattle.host.specs.Promises.{Opens, Adds, AddsRow, Merges, Fills, ReadsIn, WritesOut, Begins, Moves};
+ghost use Rattle.host.specs.Promises.{Opens, Adds, PlainAdds, AddsRow, Merges, Fills, ReadsIn, WritesOut, Begins, Moves};
 
 pub mod stretches;
 
@@ -35,6 +36,8 @@ use crossing::told::told_place;
 use crossing::walker_in;
 use crossing::walker_row;
 use find::Walker;
+use plain::adding::add_answer as plain_answer;
+use plain::adding::fill;
 use row::Stretch;
 use row::is_done;
 use row::row_answer;
@@ -76,6 +79,24 @@ fn add_in(row: &mut [u32], lo: u32, hi: u32) -> u32
         Answer::Refused(number) => number,
         Answer::Done => {
             add_known(row, lo, hi);
+            0
+        }
+    }
+}
+
+// The same by the plain engine.
+fn plain_add_in(row: &mut [u32], lo: u32, hi: u32) -> u32
+    requires { ⌜ length (now row) ≡ 511 ⌝ }
+    ensures { λ r. ⌜ PlainAdds (now (row .entry)) lo hi r (now (row .exit)) ⌝ }
+{
+    let s = settings_in(row);
+    let answer = plain_answer(is_sketch(row), s, lo, hi);
+    match answer {
+        Answer::Refused(number) => number,
+        Answer::Done => {
+            let mut out = [0u32; PLACES];
+            let kept = fill(&mut out, s, kept_in(row), &row[7..], lo, hi);
+            put_sketch(row, s, kept.level, kept.count, &out);
             0
         }
     }
@@ -138,6 +159,37 @@ pub extern "C" fn pot_add(sketch: &mut [u32; SKETCH], lo: u32, hi: u32) -> u32
     ensures { λ r. ⌜ Adds (now (sketch .entry)) lo hi r (now (sketch .exit)) ⌝ }
 {
     add_in(sketch, lo, hi)
+}
+
+// The same by the plain engine, as the two after it: for n up to its limit.
+#[no_mangle]
+pub extern "C" fn pot_plain_add(sketch: &mut [u32; SKETCH], lo: u32, hi: u32) -> u32
+    ensures { λ r. ⌜ PlainAdds (now (sketch .entry)) lo hi r (now (sketch .exit)) ⌝ }
+{
+    plain_add_in(sketch, lo, hi)
+}
+
+#[no_mangle]
+pub extern "C" fn pot_plain_count(
+    settings: &[u32; SETTINGS],
+    level: u32,
+    lo: u32,
+    hi: u32,
+) -> ToldValue
+    ensures { λ r. ⌜ Crosses (plainCountOn (settingsFrom (now (settings .entry))) level lo hi) (r .number) (r .value) ⌝ }
+{
+    told_count(plain::count(settings_in(settings), level, lo, hi))
+}
+
+#[no_mangle]
+pub extern "C" fn pot_plain_next_hit(settings: &[u32; SETTINGS], level: u32, from: u32) -> ToldValue
+    ensures { λ r. ⌜ Crosses (plainNextOn (settingsFrom (now (settings .entry))) level from) (r .number) (r .value) ⌝ }
+{
+    let told = told_cell(plain::next_hit(settings_in(settings), level, from));
+    ToldValue {
+        number: told.number,
+        value: told.cell,
+    }
 }
 
 // A row of stretches: all of it is added, or nothing.

@@ -1,6 +1,8 @@
-// A small kitchen on paper: each cell with its hash and the highest level at which it passes, and then a short evening on two
-// handhelds, step by step, so that a person with a pencil can follow. docs/KITCHEN.md walks through what this prints.
+// A small kitchen on paper: each cell with its hash and the highest level at which it passes, a count by the plain engine, cell by
+// cell, and then a short evening on two handhelds, step by step, so that a person with a pencil can follow. docs/KITCHEN.md walks
+// through what this prints.
 use rule::Settings;
+use rule::answers::Counted;
 use sketch::Sketch;
 use sketch::estimates::Estimate;
 
@@ -61,6 +63,61 @@ fn print_list(settings: Settings) {
         text(b"\n");
         x = x + 1;
     }
+}
+
+// A count of the plain engine: at this level, over lo..hi.
+const LEVEL: u32 = 1;
+
+const LO: u32 = 3;
+
+const HI: u32 = 9;
+
+fn print_asked(settings: Settings) {
+    text(b"plain count of ");
+    number(LO);
+    text(b"..");
+    number(HI);
+    text(b" at level ");
+    number(LEVEL);
+    text(b", region ");
+    number(settings.region(LEVEL));
+    text(b"\ncell hash counts so far\n");
+}
+
+// A cell that it tests: what that counts, and what all have counted so far.
+fn print_step(settings: Settings, x: u32, counts: u32, many: u32) {
+    number(x);
+    text(b" ");
+    io::print_decimal(OUT, settings.hash(x));
+    text(b" ");
+    number(counts);
+    text(b" ");
+    number(many);
+    text(b"\n");
+}
+
+// The engine's own loop, with a line printed for each cell.
+fn print_steps(settings: Settings) {
+    let mut many: u32 = 0;
+    let mut x = LO;
+    while x <= HI {
+        let counts = plain::counts(settings, LEVEL, x);
+        many = many + counts;
+        print_step(settings, x, counts, many);
+        x = x + 1;
+    }
+}
+
+// What it answers, which is what the last line has come to.
+fn print_counted(settings: Settings) {
+    match plain::count(settings, LEVEL, LO, HI) {
+        Counted::Count(v) => {
+            text(b"counted ");
+            number(v);
+        }
+        Counted::Refused(_) => text(b"refused"),
+    }
+    text(b"\n");
 }
 
 fn print_cells(cells: &[u32]) {
@@ -128,6 +185,9 @@ fn main() {
     let settings = kitchen();
     print_regions(settings);
     print_list(settings);
+    print_asked(settings);
+    print_steps(settings);
+    print_counted(settings);
     let opened = Sketch::open(settings);
     let empty = opened.sketch;
     let a = sees(b"first handheld", empty, 1, 2);
