@@ -63,10 +63,15 @@
  * sketches with equal settings merge. No call asks for a prime or for chance, but without them an estimate
  * above level 0 misleads: with a = 1, say, the cells of a short stretch pass all together or not at all.
  *
+ * Two engines. pot_count, pot_next_hit and pot_add don't walk over the cells. pot_plain_count,
+ * pot_plain_next_hit and pot_plain_add test each one, as with a pencil: they are for small kitchens, to be
+ * read (crates/plain) and to compare with. Up to n = POT_PLAIN_LIMIT both engines answer the same and leave
+ * the same sketch, on every input; above it the plain one refuses.
+ *
  * What a call costs. No heap, no memory of its own, no system call. POT_STACK bytes of stack do for every
- * call; measured on x86-64 (tests/stack.c), pot_merge uses under 5,000, pot_add and pot_add_row under 3,600,
- * however long the row, and every other call under 1,024. The library is under 20,000 bytes of code and
- * constants.
+ * call; measured on x86-64 (tests/stack.c), pot_merge uses under 5,000, pot_add, pot_add_row, however long the
+ * row, and pot_plain_add under 3,600, and every other call under 1,024. The library is under 22,000 bytes of
+ * code and constants.
  */
 #ifndef POT_H
 #define POT_H
@@ -78,14 +83,15 @@
 extern "C" {
 #endif
 
-/* The lengths of the rows; how many cells a sketch has places for; the bytes of the largest image; and
- * the bytes of stack that do for every call. */
+/* The lengths of the rows; how many cells a sketch has places for; the bytes of the largest image; the
+ * bytes of stack that do for every call; and the largest n of the plain engine. */
 #define POT_SETTINGS 5
 #define POT_SKETCH 511
 #define POT_WALKER 8
 #define POT_PLACES 504
 #define POT_IMAGE 2560
 #define POT_STACK 6144
+#define POT_PLAIN_LIMIT 4096
 
 /* The places of the settings, which stand first in every row. */
 #define POT_N 0
@@ -108,7 +114,7 @@ extern "C" {
 #define POT_DONE 0
 
 /* The numbers of the refusals. */
-#define POT_BAD_SETTINGS 1 /* a setting outside its rule */
+#define POT_BAD_SETTINGS 1 /* a setting outside its rule, or n above POT_PLAIN_LIMIT in a plain call */
 #define POT_BAD_RANGE 2    /* lo or from below 1, hi or from above n, or lo above hi */
 #define POT_BAD_LEVEL 3    /* a level above the top */
 #define POT_NOT_ONE 4      /* not a sketch, or not a walker */
@@ -204,6 +210,20 @@ struct pot_written pot_write(const uint32_t sketch[POT_SKETCH], uint8_t *room, s
  * Refused: POT_BAD_IMAGE for the length, POT_BAD_CHECK, POT_BAD_IMAGE for the first four bytes,
  * POT_BAD_SETTINGS, POT_BAD_IMAGE for all else, in this order, and the sketch is all zeros. */
 struct pot_taken pot_read(const uint8_t *bytes, size_t length, uint32_t sketch[POT_SKETCH]);
+
+/* pot_count by the plain engine, for n up to POT_PLAIN_LIMIT.
+ * Refused: POT_BAD_SETTINGS, also for n above the limit, POT_BAD_LEVEL, POT_BAD_RANGE, in this order. */
+struct pot_told pot_plain_count(const uint32_t settings[POT_SETTINGS], uint32_t level, uint32_t lo,
+                                uint32_t hi);
+
+/* pot_next_hit by the plain engine, for n up to POT_PLAIN_LIMIT.
+ * Refused: POT_BAD_SETTINGS, also for n above the limit, POT_BAD_LEVEL, POT_BAD_RANGE, in this order. */
+struct pot_told pot_plain_next_hit(const uint32_t settings[POT_SETTINGS], uint32_t level, uint32_t from);
+
+/* pot_add by the plain engine, for n up to POT_PLAIN_LIMIT.
+ * Refused: POT_NOT_ONE, POT_BAD_SETTINGS for n above the limit, POT_BAD_RANGE, in this order, and the sketch
+ * is unchanged. */
+uint32_t pot_plain_add(uint32_t sketch[POT_SKETCH], uint32_t lo, uint32_t hi);
 
 #ifdef __cplusplus
 }

@@ -13,6 +13,6 @@ compile examples/evening.c "$work/evening"
 # No call uses more stack than it says.
 compile tests/stack.c "$work/stack"
 "$work/stack"
-# The library has fewer than 20,000 bytes, and asks for memcpy and memset alone.
-size "$library" | awk 'NR == 2 { print $4 " bytes in all"; exit !($4 < 20000) }'
+# The library has fewer than 22,000 bytes, and asks for memcpy and memset alone.
+size "$library" | awk 'NR == 2 { print $4 " bytes in all"; exit !($4 < 22000) }'
 nm --undefined-only "$library" | awk 'NF == 2 && $2 != "memcpy" && $2 != "memset" { print "asks for " $2; bad = 1 } END { exit bad }'

@@ -2,7 +2,7 @@
 """What the documents show of the programs' input and output is what the gate runs them on and compares.
 
 README.md and docs/RULES.md show crates/potcount/stdin with its stdout; docs/KITCHEN.md has the numbers of
-crates/paper/stdout in two tables. Prints nothing where all of it agrees.
+crates/paper/stdout in three tables, and the loop of crates/plain that it explains. Prints nothing where all of it agrees.
 """
 
 import re
@@ -39,6 +39,16 @@ def main():
     start = paper.index("cell hash highest level") + 1
     shown = [[row[0], row[2], row[3]] for row in tables if len(row) == 4 and row[0].isdigit()]
     assert shown == [line.split() for line in paper[start : start + len(shown)]], "docs/KITCHEN.md: its cells"
+
+    # the plain engine's count: each cell with its hash, what it counts, and what has been counted so far
+    start = paper.index("cell hash counts so far") + 1
+    end = next(i for i, line in enumerate(paper) if line.startswith("counted "))
+    shown = [row for row in tables if len(row) == 5 and row[0].isdigit()]
+    assert [row[:2] + row[3:] for row in shown] == [line.split() for line in paper[start:end]], "docs/KITCHEN.md: its count"
+    assert [row[2] == "yes" for row in shown] == [row[3] == "1" for row in shown], "docs/KITCHEN.md: its tests of a hash"
+    assert f"So it answers {numbers(paper[end])[0]}." in (ROOT / "docs/KITCHEN.md").read_text(), "docs/KITCHEN.md: the count's answer"
+    loop = [line for line in lines("docs/KITCHEN.md") if line.startswith("    ") and "potcount" not in line][:6]
+    assert "\n".join(loop) in (ROOT / "crates/plain/src/lib.rt").read_text(), "docs/KITCHEN.md: its loop is not that of crates/plain"
 
     # a step: its level, the cells kept, and the estimate's kind and number
     told = [re.fullmatch(r".+: level (\d+), cells(.*), (exactly|about) (\d+)", line) for line in paper]

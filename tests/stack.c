@@ -27,15 +27,18 @@ static uint32_t draw(uint32_t below)
     return (uint32_t)((state >> 32) * below >> 32);
 }
 
-// Settings of the largest kitchen; a/p is near a ratio of Fibonacci numbers, the deepest folds, half the time.
+// Settings of the largest kitchen, or one time in ten of the plain engine's largest; a/p is near a ratio of
+// Fibonacci numbers, the deepest folds, half the time.
 static void draw_settings(void)
 {
-    settings[POT_N] = 200000000;
-    settings[POT_P] = 3999999979u;
-    settings[POT_A] = draw(2) ? 1 + draw(3999999978u) : 2472135942u + draw(1000);
-    settings[POT_B] = draw(3999999979u);
+    int small = draw(10) == 0;
+    uint32_t p = small ? 65537 : 3999999979u, deep = small ? 40503 : 2472135942u;
+    settings[POT_N] = small ? POT_PLAIN_LIMIT : 200000000;
+    settings[POT_P] = p;
+    settings[POT_A] = draw(2) ? 1 + draw(p - 1) : deep + draw(1000);
+    settings[POT_B] = draw(p);
     settings[POT_CAPACITY] = draw(2) ? POT_PLACES : 1 + draw(POT_PLACES);
-    level = draw(32);
+    level = draw(small ? 17 : 32);
     lo = 1 + draw(settings[POT_N]);
     hi = lo + draw(settings[POT_N] - lo + 1);
 }
@@ -68,6 +71,9 @@ static void open_walker(void) { pot_walker_open(settings, level, lo, hi, walker)
 static void step(void) { pot_walker_next(walker); }
 static void write_it(void) { length = pot_write(one, image, sizeof image).length; }
 static void read_it(void) { pot_read(image, length, one); }
+static void count_plainly(void) { pot_plain_count(settings, level, lo, hi); }
+static void find_plainly(void) { pot_plain_next_hit(settings, level, lo); }
+static void add_plainly(void) { pot_plain_add(one, lo, hi); }
 
 static const struct {
     const char *name;
@@ -85,6 +91,9 @@ static const struct {
     {"pot_walker_next", step, 1024},
     {"pot_write", write_it, 1024},
     {"pot_read", read_it, 1024},
+    {"pot_plain_count", count_plainly, 1024},
+    {"pot_plain_next_hit", find_plainly, 1024},
+    {"pot_plain_add", add_plainly, 3600},
 };
 
 // Sketches at levels low and high, full and half full, and what the other calls need.
@@ -133,7 +142,7 @@ int main(void)
     size_t none = used(nothing);
     for (size_t i = 0; i < sizeof calls / sizeof calls[0]; i++) {
         size_t bytes = used(calls[i].call) - none;
-        printf("%-16s %5zu bytes of stack\n", calls[i].name, bytes);
+        printf("%-18s %5zu bytes of stack\n", calls[i].name, bytes);
         bad |= bytes >= calls[i].most || bytes > POT_STACK;
     }
     return bad;

@@ -1,9 +1,11 @@
 //! Settings, stretches, sketches, forgeries and damaged images that the tests
-//! run through.
+//! run through, and the calls that they make by both engines.
 
 use crate::draw::Draw;
 use crate::naive::{self, Pot};
-use crate::shape::{Settings, Sketch, Stretch, BLOCK_BYTES, LARGEST_IMAGE, LARGEST_N, PLACES};
+use crate::shape::{
+    Refusal, Settings, Sketch, Stretch, BLOCK_BYTES, LARGEST_IMAGE, LARGEST_N, PLACES, PLAIN_LIMIT,
+};
 use crate::version::Version;
 use std::collections::BTreeSet;
 
@@ -46,6 +48,20 @@ pub fn all_settings(n: u32, capacity: u32) -> impl Iterator<Item = Settings> {
             })
         })
     })
+}
+
+/// Good settings made bad in each way. Expects an even p, a 1 and b 0, so that just
+/// one rule is broken, or with n that of p too.
+pub fn bad_settings(good: Settings) -> [Settings; 11] {
+    let Settings { n, p, .. } = good;
+    let [none, too_many, most] = [0, LARGEST_N + 1, u32::MAX].map(|n| Settings { n, ..good });
+    let [low, high] = [10 * n - 1, 20 * n + 1].map(|p| Settings { p, ..good });
+    let [zero, shared, over] = [0, 2, p].map(|a| Settings { a, ..good });
+    let [no_place, beyond] = [0, 505].map(|capacity| Settings { capacity, ..good });
+    let lap = Settings { b: p, ..good };
+    [
+        none, too_many, most, low, high, zero, shared, over, lap, no_place, beyond,
+    ]
 }
 
 /// All stretches of a kitchen with n cells.
@@ -220,6 +236,91 @@ pub fn forge(draw: &mut Draw, sketch: &Sketch) -> Sketch {
         }
     }
     forged
+}
+
+/// A sketch forged in each way that makes it none. Expects the settings that
+/// [`bad_settings`] does, level 0, a place to spare, and three cells.
+pub fn forgeries(good: &Sketch) -> Vec<Sketch> {
+    let Settings { n, capacity, .. } = good.settings;
+    let top = naive::top(&good.settings);
+    let settings = bad_settings(good.settings).map(|settings| Sketch { settings, ..*good });
+    // At the top at most one of the cells passes.
+    let levels = [top, top + 1, 32, u32::MAX].map(|level| Sketch { level, ..*good });
+    let counts = [0, 2, 4, capacity + 1, u32::MAX].map(|count| Sketch { count, ..*good });
+    let unordered = [(0, good.cells[1]), (1, good.cells[2]), (0, good.cells[2])];
+    let outside = [(0, 0), (2, n + 1), (2, u32::MAX)];
+    let behind = [(3, n), (3, u32::MAX), (PLACES - 1, 1)];
+    let cells = [unordered, outside, behind].concat();
+    let changed: Vec<Sketch> = cells
+        .into_iter()
+        .map(|(place, cell)| {
+            let mut forged = *good;
+            forged.cells[place] = cell;
+            forged
+        })
+        .collect();
+    [
+        &[Sketch::default()],
+        &settings[..],
+        &levels,
+        &counts,
+        &changed,
+    ]
+    .concat()
+}
+
+/// What the plain engine must answer where the first answers this: the same, or 1
+/// for n above the limit. Only what is no sketch comes before that.
+pub fn plainly<T: PartialEq>(settings: &Settings, first: Result<T, Refusal>) -> Result<T, Refusal> {
+    if settings.n <= PLAIN_LIMIT || first == Err(Refusal::SHAPE) {
+        first
+    } else {
+        Err(Refusal::SETTING)
+    }
+}
+
+/// The count by the first engine. The plain one must answer as [`plainly`] says.
+pub fn count_by_both<V: Version>(
+    settings: &Settings,
+    level: u32,
+    lo: u32,
+    hi: u32,
+) -> Result<u32, Refusal> {
+    let first = V::count(settings, level, lo, hi);
+    let plain = V::plain_count(settings, level, lo, hi);
+    assert_eq!(
+        plain,
+        plainly(settings, first),
+        "{settings:?} {level} {lo} {hi}"
+    );
+    first
+}
+
+/// The same for the next hit.
+pub fn next_hit_by_both<V: Version>(
+    settings: &Settings,
+    level: u32,
+    from: u32,
+) -> Result<Option<u32>, Refusal> {
+    let first = V::next_hit(settings, level, from);
+    let plain = V::plain_next_hit(settings, level, from);
+    assert_eq!(
+        plain,
+        plainly(settings, first),
+        "{settings:?} {level} {from}"
+    );
+    first
+}
+
+/// The same for an add.
+pub fn add_by_both<V: Version>(sketch: &Sketch, lo: u32, hi: u32) -> Result<Sketch, Refusal> {
+    let first = V::add(sketch, lo, hi);
+    let plain = V::plain_add(sketch, lo, hi);
+    assert!(
+        plain == plainly(&sketch.settings, first),
+        "{sketch:?} {lo} {hi}"
+    );
+    first
 }
 
 /// Sketches with images of every length, at level 0 and above.

@@ -145,6 +145,22 @@ impl Version for Library {
         let sketch = told(number, row.open(), [0; SKETCH]).map(Sketch::of_row);
         sketch.map_err(|refusal| Refusal { place, ..refusal })
     }
+
+    fn plain_count(settings: &Settings, level: u32, lo: u32, hi: u32) -> Result<u32, Refusal> {
+        let answer = calls::plain_count(&settings.for_library(), level, lo, hi);
+        told(answer.number, answer.value, 0)
+    }
+
+    fn plain_next_hit(settings: &Settings, level: u32, from: u32) -> Result<Option<u32>, Refusal> {
+        let answer = calls::plain_next_hit(&settings.for_library(), level, from);
+        told(answer.number, answer.value, 0).map(some_cell)
+    }
+
+    fn plain_add(sketch: &Sketch, lo: u32, hi: u32) -> Result<Sketch, Refusal> {
+        let mut row = Fenced::new(sketch.row());
+        let number = calls::plain_add(&mut row.lent, lo, hi);
+        told(number, row.open(), sketch.row()).map(Sketch::of_row)
+    }
 }
 
 /// A row of stretches as the library takes it.

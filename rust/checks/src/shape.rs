@@ -5,6 +5,8 @@
 pub const PLACES: usize = 504;
 /// The largest n of good settings.
 pub const LARGEST_N: u32 = 200_000_000;
+/// The largest n of the plain engine.
+pub const PLAIN_LIMIT: u32 = 4_096;
 /// Bytes of one block of an image.
 pub const BLOCK_BYTES: usize = 512;
 /// Bytes of the largest image.

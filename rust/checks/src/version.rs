@@ -39,6 +39,15 @@ pub trait Version {
 
     /// The sketch of an image.
     fn read(image: &[u8]) -> Result<Sketch, Refusal>;
+
+    /// The count by the plain engine.
+    fn plain_count(settings: &Settings, level: u32, lo: u32, hi: u32) -> Result<u32, Refusal>;
+
+    /// The next hit by the plain engine.
+    fn plain_next_hit(settings: &Settings, level: u32, from: u32) -> Result<Option<u32>, Refusal>;
+
+    /// The sketch with lo..hi added by the plain engine.
+    fn plain_add(sketch: &Sketch, lo: u32, hi: u32) -> Result<Sketch, Refusal>;
 }
 
 /// Two versions side by side: each call is made of both, and fails unless they
@@ -114,6 +123,24 @@ impl<V: Version, W: Version> Version for Beside<V, W> {
 
     fn read(image: &[u8]) -> Result<Sketch, Refusal> {
         alike(V::read(image), W::read(image), || format!("read {image:?}"))
+    }
+
+    fn plain_count(settings: &Settings, level: u32, lo: u32, hi: u32) -> Result<u32, Refusal> {
+        let call = || format!("plain count {settings:?} {level} {lo} {hi}");
+        let one = V::plain_count(settings, level, lo, hi);
+        alike(one, W::plain_count(settings, level, lo, hi), call)
+    }
+
+    fn plain_next_hit(settings: &Settings, level: u32, from: u32) -> Result<Option<u32>, Refusal> {
+        let call = || format!("plain next hit {settings:?} {level} {from}");
+        let one = V::plain_next_hit(settings, level, from);
+        alike(one, W::plain_next_hit(settings, level, from), call)
+    }
+
+    fn plain_add(sketch: &Sketch, lo: u32, hi: u32) -> Result<Sketch, Refusal> {
+        let call = || format!("plain add {sketch:?} {lo} {hi}");
+        let one = V::plain_add(sketch, lo, hi);
+        alike(one, W::plain_add(sketch, lo, hi), call)
     }
 }
 

@@ -1,6 +1,7 @@
-//! The kitchen tests (RULES: Kitchen tests).
+//! The kitchen tests (RULES: Kitchen tests): counts, next hits and adds by both
+//! engines.
 
-use checks::cases::{walk_all, Q};
+use checks::cases::{add_by_both, count_by_both, next_hit_by_both, walk_all, Q};
 use checks::naive;
 use checks::shape::{Estimate, Refusal, Settings, BLOCK_BYTES, LARGEST_IMAGE};
 use checks::version::Version;
@@ -21,10 +22,10 @@ fn hashes_and_regions() {
 fn passing<V: Version>() {
     assert_eq!(walk_all::<V>(&Q, 1, 1, 10), [1, 3, 6, 9]);
     assert_eq!(walk_all::<V>(&Q, 2, 1, 10), [3]);
-    assert_eq!(V::count(&Q, 3, 1, 10), Ok(0));
+    assert_eq!(count_by_both::<V>(&Q, 3, 1, 10), Ok(0));
     let down = Settings { a: 100, b: 0, ..Q };
-    assert_eq!(V::count(&down, 1, 1, 10), Ok(0));
-    assert_eq!(V::next_hit(&down, 1, 1), Ok(None));
+    assert_eq!(count_by_both::<V>(&down, 1, 1, 10), Ok(0));
+    assert_eq!(next_hit_by_both::<V>(&down, 1, 1), Ok(None));
     let up = Settings { a: 1, b: 0, ..Q };
     assert_eq!(walk_all::<V>(&up, 4, 1, 10), [1, 2, 3, 4, 5]);
 }
@@ -38,7 +39,7 @@ fn samples<V: Version>() {
     };
     let add_all = |b| {
         let empty = V::open(&Settings { b, ..one_place }).unwrap();
-        V::add(&empty, 1, 10).unwrap()
+        add_by_both::<V>(&empty, 1, 10).unwrap()
     };
     let none = add_all(0);
     assert_eq!((none.level, none.count), (6, 0));
@@ -67,7 +68,7 @@ fn limits<V: Version>() {
     assert_eq!(opens(Settings { p: 100, a: 3, ..Q }), Ok(()));
     let shared = Settings { p: 100, a: 50, ..Q };
     assert_eq!(opens(shared), Err(Refusal::SETTING));
-    assert_eq!(V::count(&Q, 7, 1, 10), Err(Refusal::LEVEL));
+    assert_eq!(count_by_both::<V>(&Q, 7, 1, 10), Err(Refusal::LEVEL));
     assert_eq!(opens(Settings { capacity: 504, ..Q }), Ok(()));
     let over = Settings { capacity: 505, ..Q };
     assert_eq!(opens(over), Err(Refusal::SETTING));

@@ -1,7 +1,9 @@
-//! Count, next hit, and opening, which take settings.
+//! Count, next hit, and opening, which take settings. The plain engine has tests
+//! of its own.
 
 use checks::cases::{
-    all_settings, all_stretches, any_size, drawing, extreme_settings, passing, walk_all, LARGEST, Q,
+    all_settings, all_stretches, any_size, count_by_both, drawing, extreme_settings,
+    next_hit_by_both, passing, walk_all, LARGEST, Q,
 };
 use checks::draw::Draw;
 use checks::library::Library;
@@ -60,9 +62,9 @@ fn refusals_in_order<V: Version>() {
     for settings in [Q, bad, Settings::default()] {
         for level in numbers {
             for lo in numbers {
-                let _ = V::next_hit(&settings, level, lo);
+                let _ = next_hit_by_both::<V>(&settings, level, lo);
                 for hi in numbers {
-                    let _ = V::count(&settings, level, lo, hi);
+                    let _ = count_by_both::<V>(&settings, level, lo, hi);
                     let _ = V::walker(&settings, level, lo, hi);
                 }
             }
@@ -144,8 +146,8 @@ fn extreme_numbers<V: Version>() {
         let level = draw.from_to(0, 33);
         let (lo, hi) = (draw.from_to(0, 3), draw.from_to(0, LARGEST_N + 1));
         let _ = V::open(&settings);
-        let _ = V::count(&settings, level, lo, hi);
-        let _ = V::next_hit(&settings, level, hi);
+        let _ = count_by_both::<V>(&settings, level, lo, hi);
+        let _ = next_hit_by_both::<V>(&settings, level, hi);
         let _ = V::walker(&settings, level, lo, hi);
     }
 }

@@ -1,9 +1,9 @@
-//! Sketches, good and forged: opening, adding, merging, estimating. Rows of
-//! stretches have tests of their own.
+//! Sketches, good and forged: opening, adding by both engines, merging,
+//! estimating. Rows of stretches and the plain engine have tests of their own.
 
 use checks::cases::{
-    all_settings, all_sketches, all_stretches, any_size, drawing, forge, forged_number, image_of,
-    sketches_of_every_length, walk_all, Q,
+    add_by_both, all_settings, all_sketches, all_stretches, any_size, drawing, forge,
+    forged_number, image_of, sketches_of_every_length, walk_all, Q,
 };
 use checks::draw::Draw;
 use checks::naive::{self, Pot};
@@ -92,7 +92,7 @@ fn history<V: Version>(draw: &mut Draw, settings: Settings, longest: u32, steps:
             _ => {
                 let (lo, hi) = draw.stretch(settings.n, longest);
                 let each = Pot::of(&row[i].sketch).unwrap().add_each(lo, hi);
-                row[i].sketch = V::add(&row[i].sketch, lo, hi).unwrap();
+                row[i].sketch = add_by_both::<V>(&row[i].sketch, lo, hi).unwrap();
                 assert!(row[i].sketch == each.shape(), "{each:?}");
                 row[i].cells.extend(lo..=hi);
             }
@@ -183,8 +183,8 @@ fn refusals_in_order<V: Version>() {
     let numbers = [0, 1, 2, 3, 6, 7, 10, 11, u32::MAX];
     for lo in numbers {
         for hi in numbers {
-            let _ = V::add(&sketch, lo, hi);
-            assert_eq!(V::add(&zero, lo, hi), Err(Refusal::SHAPE));
+            let _ = add_by_both::<V>(&sketch, lo, hi);
+            assert_eq!(add_by_both::<V>(&zero, lo, hi), Err(Refusal::SHAPE));
         }
     }
     let others = [
@@ -212,8 +212,8 @@ fn all_calls<V: Version>(forged: &Sketch, good: &Sketch, lo: u32, hi: u32) -> bo
     let mut room = [0xA5; LARGEST_IMAGE];
     assert_eq!(V::estimate(forged).is_ok(), is_sketch, "{forged:?}");
     assert_eq!(V::write(forged, &mut room).is_ok(), is_sketch);
-    let _ = V::add(forged, lo, hi);
-    let _ = V::add(forged, hi, 0);
+    let _ = add_by_both::<V>(forged, lo, hi);
+    let _ = add_by_both::<V>(forged, hi, 0);
     let [good_one, bad] = [(lo, hi), (hi, 0)];
     for row in [&[][..], &[good_one], &[bad], &[good_one, bad]] {
         let refused = V::add_row(forged, row).err() == Some(Refusal::SHAPE);

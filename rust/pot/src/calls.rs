@@ -29,7 +29,7 @@ pub struct Placed {
     pub place: usize,
 }
 
-/// What [`count`] and [`next_hit`] answer.
+/// What [`count`] and [`next_hit`] answer, and the same by the plain engine.
 #[repr(C)]
 #[derive(Clone, Copy, Debug, PartialEq, Eq)]
 pub struct Told {
@@ -171,6 +171,29 @@ pub fn read(image: &[u8], sketch: &mut [u32; SKETCH]) -> Taken {
     unsafe { linked::pot_read(image.as_ptr(), image.len(), sketch) }
 }
 
+/// [`count`] by the plain engine. Refusals: 1, also for n above the limit, 3, 2.
+#[inline]
+pub fn plain_count(settings: &Settings, level: u32, lo: u32, hi: u32) -> Told {
+    // SAFETY: as in `open`.
+    unsafe { linked::pot_plain_count(settings, level, lo, hi) }
+}
+
+/// [`next_hit`] by the plain engine. Refusals: 1, also for n above the limit, 3,
+/// 2.
+#[inline]
+pub fn plain_next_hit(settings: &Settings, level: u32, from: u32) -> Told {
+    // SAFETY: as in `open`.
+    unsafe { linked::pot_plain_next_hit(settings, level, from) }
+}
+
+/// [`add`] by the plain engine. Refusals: 4, 1 for n above the limit, 2, and the
+/// sketch is unchanged.
+#[inline]
+pub fn plain_add(sketch: &mut [u32; SKETCH], lo: u32, hi: u32) -> u32 {
+    // SAFETY: as in `open`.
+    unsafe { linked::pot_plain_add(sketch, lo, hi) }
+}
+
 /// The declarations of the library's functions. Nothing checks them against the
 /// library, so they stand side by side with `include/pot.h`.
 mod linked {
@@ -197,5 +220,8 @@ mod linked {
         pub fn pot_walker_next(walker: &mut [u32; WALKER]) -> Found;
         pub fn pot_write(sketch: &[u32; SKETCH], room: *mut u8, room_length: usize) -> Written;
         pub fn pot_read(bytes: *const u8, length: usize, sketch: &mut [u32; SKETCH]) -> Taken;
+        pub fn pot_plain_count(settings: &Settings, level: u32, lo: u32, hi: u32) -> Told;
+        pub fn pot_plain_next_hit(settings: &Settings, level: u32, from: u32) -> Told;
+        pub fn pot_plain_add(sketch: &mut [u32; SKETCH], lo: u32, hi: u32) -> u32;
     }
 }

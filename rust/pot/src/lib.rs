@@ -54,5 +54,10 @@ pub use walker::Walker;
 pub const PLACES: usize = 504;
 /// The largest n of good settings.
 pub const LARGEST_N: u32 = 200_000_000;
+/// The largest n of the plain engine, which tests each cell where the first
+/// doesn't walk over them, and up to here answers the same:
+/// [`Settings::plain_count`], [`Settings::plain_next_hit`] and
+/// [`Sketch::plain_add`].
+pub const PLAIN_LIMIT: u32 = 4_096;
 /// The bytes of the largest image.
 pub const LARGEST_IMAGE: usize = 2_560;

@@ -5,7 +5,8 @@ use std::fmt;
 #[derive(Clone, Copy, Debug, PartialEq, Eq, Hash)]
 #[non_exhaustive]
 pub enum Refusal {
-    /// 1: a setting is outside its rule.
+    /// 1: a setting is outside its rule, or n above
+    /// [`PLAIN_LIMIT`](crate::PLAIN_LIMIT) where the plain engine is called.
     BadSettings,
     /// 2: a stretch begins below cell 1, ends above cell n, or begins above its
     /// end.

@@ -100,6 +100,44 @@ impl Settings {
         unless_refused(told.number, unless_none(told.value))
     }
 
+    /// [`count`](Settings::count) by the plain engine, which tests each cell: the
+    /// same answer, for n up to [`PLAIN_LIMIT`](crate::PLAIN_LIMIT).
+    ///
+    /// Refused with [`Refusal::BadSettings`], also for n above the limit,
+    /// [`Refusal::BadLevel`], [`Refusal::BadRange`], in this order.
+    ///
+    /// ```
+    /// # use pot::{Refusal, Settings};
+    /// let settings = Settings { n: 10, p: 101, a: 37, b: 5, capacity: 16 };
+    /// assert_eq!(settings.plain_count(1, 1..=10), Ok(4));
+    /// let large = Settings { n: 5_000, p: 50_021, ..settings };
+    /// assert!(large.count(1, 1..=10).is_ok());
+    /// assert_eq!(large.plain_count(1, 1..=10), Err(Refusal::BadSettings));
+    /// ```
+    #[inline]
+    pub fn plain_count(&self, level: u32, cells: RangeInclusive<u32>) -> Result<u32, Refusal> {
+        let told = calls::plain_count(self, level, *cells.start(), *cells.end());
+        unless_refused(told.number, told.value)
+    }
+
+    /// [`next_hit`](Settings::next_hit) by the plain engine, which tests each
+    /// cell: the same answer, for n up to [`PLAIN_LIMIT`](crate::PLAIN_LIMIT).
+    ///
+    /// Refused with [`Refusal::BadSettings`], also for n above the limit,
+    /// [`Refusal::BadLevel`], [`Refusal::BadRange`], in this order.
+    ///
+    /// ```
+    /// # use pot::Settings;
+    /// let settings = Settings { n: 10, p: 101, a: 37, b: 5, capacity: 16 };
+    /// assert_eq!(settings.plain_next_hit(1, 4), Ok(Some(6)));
+    /// assert_eq!(settings.plain_next_hit(2, 4), Ok(None));
+    /// ```
+    #[inline]
+    pub fn plain_next_hit(&self, level: u32, from: u32) -> Result<Option<u32>, Refusal> {
+        let told = calls::plain_next_hit(self, level, from);
+        unless_refused(told.number, unless_none(told.value))
+    }
+
     /// The cells that pass at a level, one after the other.
     ///
     /// Refused with [`Refusal::BadSettings`], [`Refusal::BadLevel`],

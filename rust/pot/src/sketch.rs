@@ -86,6 +86,26 @@ impl Sketch {
         }
     }
 
+    /// [`add`](Sketch::add) by the plain engine, which tests each cell of 1..n:
+    /// the same sketch, for n up to [`PLAIN_LIMIT`](crate::PLAIN_LIMIT).
+    ///
+    /// Refused with [`Refusal::BadSettings`] for n above the limit,
+    /// [`Refusal::BadRange`], in this order.
+    ///
+    /// ```
+    /// # use pot::{Refusal, Settings, Sketch};
+    /// # let settings = Settings { n: 10, p: 101, a: 37, b: 5, capacity: 3 };
+    /// let mut sketch = Sketch::open(settings)?;
+    /// sketch.plain_add(1..=4)?;
+    /// assert_eq!((sketch.level(), sketch.cells()), (1, &[1, 3][..]));
+    /// # Ok::<(), Refusal>(())
+    /// ```
+    #[inline]
+    pub fn plain_add(&mut self, cells: RangeInclusive<u32>) -> Result<(), Refusal> {
+        let (lo, hi) = cells.into_inner();
+        unless_refused(calls::plain_add(&mut self.row, lo, hi), ())
+    }
+
     /// Adds what the other sketch stands for.
     ///
     /// Refused with [`Refusal::Unequal`].

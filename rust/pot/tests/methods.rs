@@ -1,7 +1,7 @@
 //! The methods as somebody who depends on them meets them. What the calls behind
 //! them answer is tested in `checks`, against other versions.
 
-use pot::{calls, Estimate, Refusal, Settings, Sketch, Stretch, LARGEST_IMAGE};
+use pot::{calls, Estimate, Refusal, Settings, Sketch, Stretch, LARGEST_IMAGE, PLAIN_LIMIT};
 use std::error::Error;
 
 const Q: Settings = Settings {
@@ -109,6 +109,45 @@ fn settings_calls_are_refused_by_cause() {
     assert_eq!(bad.next_hit(7, 0), Err(Refusal::BadSettings));
     assert_eq!(Q.walk(7, 1..=10), Err(Refusal::BadLevel));
     assert_eq!(Q.walk(1, 1..=11), Err(Refusal::BadRange));
+}
+
+#[test]
+fn the_plain_engine_answers_the_same() {
+    for level in 0..=7 {
+        assert_eq!(Q.plain_count(level, 2..=9), Q.count(level, 2..=9));
+        assert_eq!(Q.plain_next_hit(level, 2), Q.next_hit(level, 2));
+    }
+    let mut one = Sketch::open(Settings { capacity: 3, ..Q }).unwrap();
+    let mut two = one.clone();
+    for cells in [1..=2, 2..=4, 6..=6, 9..=10, 0..=3] {
+        assert_eq!(one.plain_add(cells.clone()), two.add(cells));
+        assert_eq!(one, two);
+    }
+    assert_eq!((one.level(), one.cells()), (2, &[3][..]));
+}
+
+#[test]
+fn the_plain_engine_has_a_limit() {
+    let at = Settings {
+        n: PLAIN_LIMIT,
+        p: 65_537,
+        ..Q
+    };
+    assert_eq!(at.plain_count(0, 1..=PLAIN_LIMIT), Ok(PLAIN_LIMIT));
+    assert_eq!(at.plain_next_hit(0, PLAIN_LIMIT), Ok(Some(PLAIN_LIMIT)));
+    let mut sketch = Sketch::open(at).unwrap();
+    assert_eq!(sketch.plain_add(PLAIN_LIMIT..=PLAIN_LIMIT), Ok(()));
+    assert_eq!(sketch.cells(), [PLAIN_LIMIT]);
+    let above = Settings { n: at.n + 1, ..at };
+    let mut sketch = Sketch::open(above).unwrap();
+    let before = sketch.clone();
+    let refusals = [
+        above.plain_count(0, 1..=1).unwrap_err(),
+        above.plain_next_hit(0, 1).unwrap_err(),
+        sketch.plain_add(1..=1).unwrap_err(),
+    ];
+    assert_eq!(refusals.map(|refusal| refusal.number()), [1; 3]);
+    assert_eq!(sketch, before);
 }
 
 #[test]

@@ -10,7 +10,7 @@ mod sketch;
 pub use image::{image, read, seal};
 pub use potcount::potcount;
 pub use settings::{
-    greatest_common_divisor, hash, is_walker, next_hit, passes, range_count, region,
+    greatest_common_divisor, hash, is_small, is_walker, next_hit, passes, range_count, region,
     settings_are_good, settings_call_refusal, top,
 };
 pub use sketch::{is_sketch, Pot};
@@ -103,5 +103,23 @@ impl Version for Naive {
 
     fn read(image: &[u8]) -> Result<Sketch, Refusal> {
         read(image)
+    }
+
+    /// This version tests each cell anyhow: the plain engine only has a limit.
+    fn plain_count(settings: &Settings, level: u32, lo: u32, hi: u32) -> Result<u32, Refusal> {
+        demand(is_small(settings), Refusal::SETTING)?;
+        Naive::count(settings, level, lo, hi)
+    }
+
+    fn plain_next_hit(settings: &Settings, level: u32, from: u32) -> Result<Option<u32>, Refusal> {
+        demand(is_small(settings), Refusal::SETTING)?;
+        Naive::next_hit(settings, level, from)
+    }
+
+    /// What is no sketch comes before the limit.
+    fn plain_add(sketch: &Sketch, lo: u32, hi: u32) -> Result<Sketch, Refusal> {
+        Pot::of(sketch)?;
+        demand(is_small(&sketch.settings), Refusal::SETTING)?;
+        Naive::add(sketch, lo, hi)
     }
 }

@@ -20,6 +20,11 @@ pub fn settings_are_good(settings: &Settings) -> bool {
         && greatest_common_divisor(a, p) == 1
 }
 
+/// Whether the plain engine takes a kitchen of this size.
+pub fn is_small(settings: &Settings) -> bool {
+    settings.n <= 4_096
+}
+
 /// Euclid's.
 pub fn greatest_common_divisor(a: u64, b: u64) -> u64 {
     match a {

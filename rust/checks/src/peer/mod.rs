@@ -10,6 +10,7 @@
 
 mod folds;
 mod image;
+mod plain;
 mod potcount;
 mod settings;
 mod sketch;
@@ -67,5 +68,17 @@ impl Version for Peer {
 
     fn read(image: &[u8]) -> Result<Sketch, Refusal> {
         Sketch::read(image)
+    }
+
+    fn plain_count(settings: &Settings, level: u32, lo: u32, hi: u32) -> Result<u32, Refusal> {
+        settings.plain_count(level, lo, hi)
+    }
+
+    fn plain_next_hit(settings: &Settings, level: u32, from: u32) -> Result<Option<u32>, Refusal> {
+        settings.plain_next_hit(level, from)
+    }
+
+    fn plain_add(sketch: &Sketch, lo: u32, hi: u32) -> Result<Sketch, Refusal> {
+        sketch.plain_add(lo, hi)
     }
 }

@@ -3,18 +3,27 @@
 use checks::cases::LARGEST;
 use checks::draw::Draw;
 use checks::library::for_library;
-use checks::shape::{Settings, Sketch, Stretch, Walker, LARGEST_N};
+use checks::shape::{Settings, Sketch, Stretch, Walker, LARGEST_N, PLAIN_LIMIT};
+
+/// Settings of the plain engine's largest kitchen.
+pub const SMALL: Settings = Settings {
+    n: PLAIN_LIMIT,
+    p: 65_537,
+    a: 40_503,
+    b: 31_415,
+    capacity: 504,
+};
 
 /// The settings with another a and b, so that figures don't hang on one fold.
-fn typical_settings(draw: &mut Draw) -> Settings {
+pub fn typical_settings(draw: &mut Draw, settings: Settings) -> Settings {
     loop {
-        let settings = Settings {
-            a: draw.from_to(1, LARGEST.p - 1),
-            b: draw.from_to(0, LARGEST.p - 1),
-            ..LARGEST
+        let drawn = Settings {
+            a: draw.from_to(1, settings.p - 1),
+            b: draw.from_to(0, settings.p - 1),
+            ..settings
         };
-        if settings.check().is_ok() {
-            return settings;
+        if drawn.check().is_ok() {
+            return drawn;
         }
     }
 }
@@ -23,12 +32,16 @@ fn typical_settings(draw: &mut Draw) -> Settings {
 pub type BothSettings = (Settings, pot::Settings);
 
 pub fn both_settings(draw: &mut Draw) -> BothSettings {
-    let settings = typical_settings(draw);
+    let settings = typical_settings(draw, LARGEST);
     (settings, settings.for_library())
 }
 
 pub fn stretch(draw: &mut Draw, cells: u32) -> Stretch {
-    let lo = draw.from_to(1, LARGEST_N - cells + 1);
+    stretch_within(draw, LARGEST_N, cells)
+}
+
+pub fn stretch_within(draw: &mut Draw, n: u32, cells: u32) -> Stretch {
+    let lo = draw.from_to(1, n - cells + 1);
     (lo, lo + cells - 1)
 }
 
@@ -53,10 +66,15 @@ pub fn empty() -> Sketch {
     Sketch::open(LARGEST).expect("good settings")
 }
 
-/// 250 cells at level 0, far from each other.
 pub fn exact_sketch() -> Sketch {
-    (1..=250).fold(empty(), |sketch, i| {
-        let cell = i * (LARGEST_N / 250);
+    spread(LARGEST, 250)
+}
+
+/// So many cells at level 0, far from each other.
+pub fn spread(settings: Settings, count: u32) -> Sketch {
+    let empty = Sketch::open(settings).expect("good settings");
+    (1..=count).fold(empty, |sketch, i| {
+        let cell = i * (settings.n / count);
         sketch.add(cell, cell).expect("a cell in 1..n")
     })
 }

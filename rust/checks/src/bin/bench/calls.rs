@@ -11,13 +11,13 @@ use checks::naive::{self, Pot};
 use checks::shape::{Sketch, Walker, LARGEST_IMAGE, LARGEST_N};
 use std::hint::black_box;
 
-const ARGUMENTS: usize = 500;
+pub const ARGUMENTS: usize = 500;
 /// Rows, and the stretches of each.
 const ROWS: usize = 50;
 const ROW: u32 = 1_000;
 /// Low, middle and high: of these levels about one cell in 2, in 4,096 and in
 /// 67,108,864 passes.
-const LEVELS: [(&str, u32); 3] = [("low", 1), ("middle", 12), ("high", 26)];
+pub const LEVELS: [(&str, u32); 3] = [("low", 1), ("middle", 12), ("high", 26)];
 const LENGTHS: [u32; 4] = [100, 10_000, 1_000_000, 100_000_000];
 
 pub fn time_counts(draw: &mut Draw) {
@@ -91,7 +91,7 @@ pub fn time_walkers() {
 
 /// What the library answers on a fresh copy of a sketch, and the copy after it
 /// looked at where it is.
-fn on_copy<R>(sketch: &pot::Sketch, call: impl FnOnce(&mut pot::Sketch) -> R) -> R {
+pub fn on_copy<R>(sketch: &pot::Sketch, call: impl FnOnce(&mut pot::Sketch) -> R) -> R {
     let mut next = sketch.clone();
     let answer = call(&mut next);
     black_box(&next);
