@@ -16,7 +16,7 @@ use Rattle.lists.proofs.Tests.{tested}
 use Rattle.rule.specs.declared.Settings.{Settings}
 use Rattle.rule.specs.Rule.{isGood, top}
 use Rattle.rule.specs.Samples.{nextHit}
-use Rattle.rule.specs.Refusals.{Paper, answered, refused, unless, badSettings, badRange, badLevel, notOne}
+use Rattle.rule.specs.Refusals.{Paper, answered, unless, badSettings, badRange, badLevel, notOne}
 use Rattle.find.specs.declared.Walker.{Walker}
 use Rattle.find.specs.Finding.{isCell, hits, nextOn}
 use Rattle.find.specs.Walking.{isWalker, stepOn, moved, afterStep}

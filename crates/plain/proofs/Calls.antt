@@ -1,4 +1,5 @@
 -- The laws of what the plain engine answers.
+--     small-facts     the limit's test as a fact
 --     above-limit, below-limit    the number of a refusal: 1 above the limit, and below it that of the first engine
 --     plain-refused, plain-answered, plain-held    what that number says of a call
 --     cell-range      a cell is a range up to n
@@ -7,14 +8,13 @@
 --     plain-bad, plain-told     the same of a sketch
 -- Assumes nothing.
 use mathlib.Core.Path.{_≡_, refl, sym, ap, _∙_}
-use mathlib.Core.Bool.{Bool, true, false, _&&_, and-true, cond}
-use mathlib.Core.List.{List, []}
+use mathlib.Core.Bool.{Bool, true, false, and-true, cond}
+use mathlib.Core.List.{[]}
 use Prim.Native.Nat.{ℕ, _≤_}
 use native.Mathlib.Omega.{arith}
 use lib.Dec.{leb}
 use borrow.Author.Tests.{le-leb, leb-true, eq-eqb, ne-eqb}
 use Rattle.rule.specs.declared.Settings.{Settings}
-use Rattle.rule.specs.Rule.{isGood}
 use Rattle.rule.specs.Refusals.{Paper, answered, refused, unless, badSettings, badRange, notOne}
 use Rattle.find.specs.Finding.{isCell, inRange, onSettings, Refuses}
 use Rattle.find.proofs.Checks.{unless-told, all-told}

@@ -14,6 +14,7 @@ use Rattle.sketch.specs.Sketches.{isSketch}
 abbrev pub limit : ℕ
 limit = 4096
 
+-- n isn't above it
 abbrev pub isSmall : Settings → Bool
 isSmall s = leb (s .n) limit
 
@@ -21,11 +22,11 @@ isSmall s = leb (s .n) limit
 abbrev pub onSmall : Settings → Paper → Paper
 onSmall s answer = unless (isSmall s) badSettings answer
 
--- the range count: 1, then 3 and 2 as for every count
+-- the range count (RULES: Range count): 1, then 3 and 2 as for every count
 unfoldable pub plainCountOn : Settings → ℕ → ℕ → ℕ → Paper
 plainCountOn s level lo hi = onSmall s (countOn s level lo hi)
 
--- the next hit, in the same order
+-- the next hit (RULES: Next hit), in the same order
 unfoldable pub plainNextOn : Settings → ℕ → ℕ → Paper
 plainNextOn s level from = onSmall s (nextOn s level from)
 
@@ -33,7 +34,7 @@ plainNextOn s level from = onSmall s (nextOn s level from)
 pub record PlainRefuses (s : Settings) (level : ℕ) (inside : Bool) (number : ℕ) : Type 0 where
   pub so : (answer : Paper) → onSmall s (onSettings s level inside answer) ≡ unless (eqb number 0) number answer
 
--- adding to what is known to be a sketch, or not: 4, then 1, then 2
+-- adding to what is known to be a sketch, or not (RULES: Plain engine): 4, then 1, then 2
 abbrev pub plainAddWhen : Bool → Settings → ℕ → ℕ → Paper
 plainAddWhen known s lo hi = unless known notOne (onSmall s (unless (inRange s lo hi) badRange (answered [])))
 

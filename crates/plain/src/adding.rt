@@ -109,8 +109,8 @@ fn gather(out: &mut [u32], settings: Settings, level: u32, kept: &[u32], lo: u32
     many
 }
 
-// The sample at the first level at which it fits, from the level of what is kept in a row on, into a
-// row of zeros.
+// The sample at the first level at which it fits, from the present level on. `kept` has that level, and
+// says how many of the row's cells are kept; the sample goes into a row of zeros.
 pub fn fill(
     out: &mut [u32],
     settings: Settings,

@@ -1,5 +1,5 @@
 -- `plain::add` meets its contract. Assumes nothing.
-use mathlib.Core.Path.{_≡_, refl, sym, ap, _∙_}
+use mathlib.Core.Path.{refl, sym, ap, _∙_}
 use Rattle.rule.specs.Refusals.{ofAnswer}
 use Rattle.sketch.specs.Calls.{doneWith}
 use Rattle.sketch.proofs.Facts.{sketch-facts}

@@ -1,6 +1,6 @@
 -- `settle::thinned` meets its contract. Assumes nothing.
 use Prim.Native.Nat.{ℕ, _<_, _≤_}
-use mathlib.Core.Path.{sym, ap, _∙_}
+use mathlib.Core.Path.{sym, ap}
 use mathlib.Core.List.{List}
 use native.Mathlib.Omega.{arith}
 use denote.Ref.{now}

@@ -1,6 +1,6 @@
 -- `plain::adding::gather` meets its contract. So far it has stored what the walk has seen; the cells left fall. Assumes nothing.
-use Prim.Native.Nat.{suc, _+_, _-_, _<_, _≤_}
-use mathlib.Core.Path.{_≡_, refl, sym, ap, _∙_}
+use Prim.Native.Nat.{suc, _-_, _<_, _≤_}
+use mathlib.Core.Path.{_≡_, refl, sym}
 use mathlib.Core.Logic.{⊎-elim}
 use native.Mathlib.Omega.{arith}
 use lib.ListN.{length, length-set}

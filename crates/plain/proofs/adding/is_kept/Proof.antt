@@ -1,11 +1,10 @@
 -- `plain::adding::is_kept` meets its contract. x is kept just where it is one of the cells not looked at yet. Assumes nothing.
-use Prim.Native.Nat.{_-_, _<_, _≤_}
+use Prim.Native.Nat.{_-_, _≤_}
 use mathlib.Core.Path.{_≡_, refl, sym, ap, _∙_}
 use mathlib.Core.List.{List}
 use native.Mathlib.Omega.{arith}
 use lib.ListN.{length, drop, drop-of-length-le}
 use Rattle.lists.specs.Lists.{listed}
-use Rattle.lists.proofs.Steps.{next}
 use Rattle.plain.proofs.Walks.{kept-here, kept-on}
 use Rattle.plain.proofs.adding.is_kept.Statement.{statement}
 use Rattle.plain.proofs.adding.is_kept.Tie as tie
