@@ -43,8 +43,8 @@ use Rattle.row.specs.Stretches.{within, firstBad, addAll, rowOn, HandsRow}
 use Rattle.row.proofs.Places.{none, all-by-place, bad-there, good-before}
 use Rattle.plain.specs.Plain.{limit, plainCountOn, plainNextOn, plainAddOn}
 use Rattle.image.specs.declared.Loaded.{Loaded}
-use Rattle.image.specs.Images.{imageOf}
-use Rattle.image.specs.Shapes.{blockAt, blocksIn, firstWrong}
+use Rattle.layout.specs.Images.{imageOf}
+use Rattle.layout.specs.Shapes.{blockAt, blocksIn, firstWrong}
 use Rattle.image.specs.Calls.{writeOn, readOn, readMarked, Writes, Reads}
 use Rattle.demands.specs.Causes.{Rule, Lawful, countRules, nextRules, stepRules, openRules, addRules, rowRules, mergeRules, estimateRules, writeRules}
 use Rattle.demands.specs.Causes.{readRules, plainCountRules, plainNextRules, plainAddRules}

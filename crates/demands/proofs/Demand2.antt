@@ -31,7 +31,7 @@ use Rattle.sketch.specs.declared.Sketch.{Sketch}
 use Rattle.sketch.specs.Sketches.{isSketch}
 use Rattle.sketch.specs.Calls.{noSketch, handed}
 use Rattle.image.specs.declared.Loaded.{Loaded}
-use Rattle.image.specs.Images.{imageOf, spelled}
+use Rattle.layout.specs.Images.{imageOf, spelled}
 use Rattle.image.specs.Calls.{writeOn, readOn, roomAfter, Writes, Reads}
 use Rattle.image.proofs.RoundTrips.{read-back, write-back}
 

@@ -41,7 +41,7 @@ use Rattle.plain.proofs.Calls.{plain-bad}
 use Rattle.row.specs.Stretches.{allIn, firstBad, addAll, rowCells, rowOn}
 use Rattle.row.proofs.Runs.{add-all-law, row-cells-in}
 use Rattle.row.proofs.Rows.{row-bad}
-use Rattle.image.specs.Images.{imageAs, imageOf}
+use Rattle.layout.specs.Images.{imageAs, imageOf}
 use Rattle.demands.proofs.Demand2.{wrote, handed-next, sketch-round-trip}
 use Rattle.demands.specs.Histories.{Made, imageFor, HasImage, brings, opening, adding, plainly, rowing, merging, refusing, reading}
 

@@ -19,8 +19,8 @@ use Rattle.sketch.specs.Calls.{sameSettings}
 use Rattle.row.specs.declared.Stretch.{Stretch}
 use Rattle.row.specs.Stretches.{allIn, firstBad}
 use Rattle.plain.specs.Plain.{isSmall}
-use Rattle.image.specs.Images.{imageOf, saidSettings}
-use Rattle.image.specs.Shapes.{blocksIn, firstWrong}
+use Rattle.layout.specs.Images.{imageOf, saidSettings}
+use Rattle.layout.specs.Shapes.{blocksIn, firstWrong}
 use Rattle.image.specs.Calls.{rightLength, marked, isImage}
 
 -- what must hold, and the refusal where it doesn't: its number and its place: the block for 7, the first bad stretch for a row's 2, zero elsewhere

@@ -18,7 +18,7 @@ use Rattle.row.specs.declared.RowChanged.{RowChanged}
 use Rattle.row.specs.Stretches.{rowOn, addAll, rowCells, HandsRow}
 use Rattle.plain.specs.Plain.{plainAddOn}
 use Rattle.image.specs.declared.Loaded.{Loaded}
-use Rattle.image.specs.Images.{imageAs, imageOf}
+use Rattle.layout.specs.Images.{imageAs, imageOf}
 use Rattle.image.specs.Calls.{Writes, Reads}
 
 -- the cells that a call adds: none where it is refused

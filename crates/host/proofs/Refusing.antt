@@ -29,8 +29,8 @@ use Rattle.sketch.specs.Calls.{noSketch, handed}
 use Rattle.row.specs.declared.Stretch.{Stretch}
 use Rattle.row.specs.Stretches.{allIn, firstBad, addAll, rowOn}
 use Rattle.plain.specs.Plain.{isSmall, plainCountOn, plainNextOn}
-use Rattle.image.specs.Images.{imageOf, saidSettings, spelled}
-use Rattle.image.specs.Shapes.{blocksIn, firstWrong}
+use Rattle.layout.specs.Images.{imageOf, saidSettings, spelled}
+use Rattle.layout.specs.Shapes.{blocksIn, firstWrong}
 use Rattle.image.specs.Calls.{writeOn, roomAfter, rightLength, marked, isImage, readMarked, readOn}
 use Rattle.crossing.specs.Crossing.{sketchRow, sketchIn, walkerRow, walkerIn, toldNumber, toldValue, Crosses, Weighs}
 use Rattle.host.specs.Promises.{Gives, AddsRow, ReadsIn, WritesOut, Begins, Moves}

@@ -14,7 +14,7 @@ use Rattle.sketch.specs.Calls.{noSketch, handed, openOn, addOn, mergeOn}
 use Rattle.plain.specs.Plain.{plainAddOn}
 use Rattle.row.specs.declared.Stretch.{Stretch}
 use Rattle.row.specs.Stretches.{addAll, rowOn}
-use Rattle.image.specs.Images.{spelled}
+use Rattle.layout.specs.Images.{spelled}
 use Rattle.image.specs.Calls.{writeOn, roomAfter, readOn}
 use Rattle.crossing.specs.Crossing.{settingsFrom, sketchRow, sketchIn, walkerRow, toldNumber, Crosses}
 use Rattle.host.specs.declared.stretches.Asked.{Asked}

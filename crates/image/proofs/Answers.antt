@@ -2,42 +2,44 @@
 --     write-not, write-short, write-done      writing
 --     read-length, read-check, read-mark, read-on     reading: the refusals in order
 --     marked-shape, marked-sketch, marked-done     reading, once the checks and the mark are right
+--     shaped-same     bytes with right checks and the mark have the shape just when they are the image of the sketch that they spell
 --     length-facts, all-right     what the tests on the length and the checks say
 --     shape-count, shape-zeros, shape-all, shaped-size     the tests of the shape, as code makes them, and what they say of the length
 --     fault-image, fault-settings     which refusal it is
---     image-put, room-put     block 0 and the cell blocks are the image, at the start of the room
+--     room-put     the image, put at the start of the room
 -- Assumes nothing.
 use Prim.Native.Nat.{ℕ, _+_, _*_, _-_, _%_, _<_, _≤_}
-use mathlib.Core.Path.{_≡_, refl, sym, ap, ap₂, _∙_}
+use mathlib.Core.Path.{_≡_, refl, sym, ap, _∙_}
 use mathlib.Core.Bool.{Bool, true, false, not, cond, _&&_, and-eq-true-iff, and-false}
-use mathlib.Core.List.{List, [], _∷_, _++_, append-nil}
+use mathlib.Core.List.{List, [], _∷_, _++_}
 use native.Mathlib.Omega.{arith}
-use lib.Dec.{eqb}
-use lib.ListN.{length, take, drop, replicate, length-append, length-drop, drop-of-length-le}
-use lib.Seq.{take-all, take-at, drop-at, length-take-le}
+use Prim.{tt}
+use lib.Dec.{eqb, lit≤}
+use lib.ListN.{length, take, drop, replicate, length-drop}
+use lib.Seq.{take-all, length-take-le}
 use borrow.Author.Tests.{leb-true, eqb-true, eq-eqb, ne-eqb, le-leb, lt-leb, lt-ltb, le-ltb}
 use Rattle.lists.specs.Lists.{same}
 use Rattle.lists.specs.Rows.{placed, allZero}
 use Rattle.lists.proofs.Searches.{least-to}
+use Rattle.lists.proofs.Tests.{same-test}
+use Rattle.lists.proofs.Same.{same-true, same-self}
 use Rattle.rule.specs.declared.answers.Written.{Written}
 use Rattle.rule.specs.declared.answers.Taken.the-variants.{Done}
 use Rattle.rule.specs.Rule.{isGood}
 use Rattle.rule.specs.Refusals.{Paper, answered, refused, unless, badSettings, badImage, ofWritten}
 use Rattle.rule.proofs.Facts.{facts-good}
-use Rattle.rule.specs.declared.Settings.{Settings}
 use Rattle.rule.specs.declared.answers.Written.the-variants as written
-use Rattle.block.specs.Sums.{sealed, blockGood}
-use Rattle.block.proofs.Blocks.{sealed-length}
+use Rattle.block.specs.Little.{numberAt}
+use Rattle.block.specs.Sums.{blockGood}
 use Rattle.sketch.specs.declared.Sketch.{Sketch}
 use Rattle.sketch.specs.Sketches.{sketchAt, isSketch}
 use Rattle.sketch.proofs.Facts.{sketch-facts}
 use Rattle.image.specs.declared.Header.{Header}
-use Rattle.image.specs.Images.{fieldsEnd, headWith, blocksFor, cellBlocks, imageWith, imageOf, saidSettings, saidCount, spelled}
-use Rattle.image.specs.Shapes.{Blocks, span, blockAt, blocksIn, firstWrong, blocksShaped, shaped}
+use Rattle.layout.specs.Images.{mark, fieldsEnd, blocksFor, imageWith, imageOf, saidSettings, saidLevel, saidCount, allCells, spelled}
+use Rattle.layout.specs.Shapes.{Blocks, span, blockAt, blocksIn, firstWrong, blocksShaped, shaped}
 use Rattle.image.specs.Calls.{writeOn, roomAfter, Writes, rightLength, marked, Checked}
 use Rattle.image.specs.Calls.{isImage, readMarked, readOn, refusedHeader, faultIn, loadedWith, HandsOver, Reads}
-use Rattle.image.proofs.Bodies.{head-length}
-use Rattle.image.proofs.Spelling.{shaped-same}
+use Rattle.layout.proofs.Spelling.{spelled-image, shaped-back, shaped-made, mark-bytes}
 
 module _ (k : Sketch) (room : List ℕ) where
   writes : (p : Paper) (r : Written) (after : List ℕ) → writeOn k (length room) ≡ p → ofWritten r ≡ p → after ≡ roomAfter p k room → Writes k room r after
@@ -91,6 +93,17 @@ module _ (s : List ℕ) (h : Header) (row : List ℕ) (zeros : row ≡ replicate
     pub read-mark : blocksIn s ≤ firstWrong s → marked s ≡ false → h ≡ refusedHeader 8 0 → Reads s (loadedWith h row)
     unfolding readOn
     read-mark good e q = hands (readOn s) s h row zeros 8 0 (rw (right, le-ltb (firstWrong s) (blocksIn s) good, e)) q
+
+-- with the mark, and nothing after the fields: they are the image of the sketch that they spell
+pub shaped-same : (s : List ℕ) → Checked s → shaped fieldsEnd s ≡ same s (imageOf (spelled s))
+unfolding marked
+shaped-same s c =
+    let begins : numberAt 4 0 s ≡ mark = eqb-true (numberAt 4 0 s) mark (mark-bytes s (c .bytes) (omega (arith, c .blocks .some)) ∙ c .mark) in
+    let is : imageWith (numberAt 4 0 s) [] (saidSettings s) (saidLevel s) (allCells s) ≡ imageOf (spelled s) =
+    ap (λ m. imageWith m [] (saidSettings s) (saidLevel s) (allCells s)) begins ∙ sym (spelled-image s) in
+    same-test _ _
+    (λ e. ap (same s) (sym (shaped-back s (c .blocks) (c .bytes) (c .right) [] (lit≤ tt) refl e ∙ is)) ∙ same-self s)
+    (λ e. shaped-made s (c .blocks) (c .bytes) (c .right) [] (lit≤ tt) (same-true s (imageOf (spelled s)) e ∙ sym is))
 
 -- no check is wrong
 pub all-right : (s : List ℕ) → blocksIn s ≤ firstWrong s → firstWrong s ≡ blocksIn s
@@ -166,19 +179,6 @@ module _ (s : List ℕ) where
   pub fault-settings : isGood (saidSettings s) ≡ false → faultIn s ≡ 1
   unfolding faultIn
   fault-settings e = rw e
-
--- block 0 and the cell blocks, put in room of their length
-pub image-put : (m : ℕ) (tail : List ℕ) → fieldsEnd + length tail ≤ 508 → (s : Settings) (level : ℕ) (xs room head blocks : List ℕ)
-    → head ≡ sealed (headWith m tail s level (length xs)) → blocks ≡ cellBlocks (blocksFor (length xs)) 1 xs
-    → (n : ℕ) → n ≡ length (head ++ drop 512 room) - 512
-    → take 512 (head ++ drop 512 room) ++ (blocks ++ drop n (drop 512 (head ++ drop 512 room))) ≡ imageWith m tail s level xs
-unfolding imageWith
-image-put m tail fits s level xs room head blocks h b n l =
-    let size : length head ≡ 512 = ap length h ∙ sealed-length (headWith m tail s level (length xs)) (head-length m s level (length xs) tail fits) in
-    let none : drop n (drop 512 room) ≡ [] = drop-of-length-le (drop 512 room) {i = n} (omega (arith, length-append head (drop 512 room))) in
-    ap₂ (λ a r. a ++ (blocks ++ r)) (take-at head (drop 512 room) 512 size) (ap (drop n) (drop-at head (drop 512 room) 512 size) ∙ none)
-    ∙ ap (λ t. head ++ t) (append-nil blocks)
-    ∙ ap₂ _++_ h b
 
 -- the image at the start of the room
 pub room-put : (img room : List ℕ) (n : ℕ) → n ≡ length img → img ++ drop (n - 0) room ≡ placed room 0 img

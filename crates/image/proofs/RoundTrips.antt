@@ -1,5 +1,5 @@
 -- The round trips of images, and that the promises are tight.
---     image-bytes     an image is bytes; `sketch-length` in Limits says how many
+--     image-bytes     an image is bytes; `sketch-length` in `layout`, Limits, says how many
 --     read-back       reading the image of a sketch gives that sketch
 --     write-back      an accepted image, written out again, gives the same bytes
 --     one-image       no two sketches have the same image
@@ -30,13 +30,13 @@ use Rattle.sketch.specs.declared.Sketch.{Sketch}
 use Rattle.sketch.specs.Sketches.{cellsOf, isSketch, Sound}
 use Rattle.sketch.proofs.Facts.{sketch-facts, facts-sketch}
 use Rattle.image.specs.declared.Loaded.{Loaded}
-use Rattle.image.specs.Images.{mark, headWith, blocksFor, cellBlocks, imageWith, imageOf, saidSettings, saidLevel, saidCount, allCells, spelled}
-use Rattle.image.specs.Shapes.{blockAt, blocksIn, firstWrong}
+use Rattle.layout.specs.Images.{mark, headWith, blocksFor, cellBlocks, imageWith, imageOf, saidSettings, saidLevel, saidCount, allCells, spelled}
+use Rattle.layout.specs.Shapes.{blockAt, blocksIn, firstWrong}
 use Rattle.image.specs.Calls.{rightLength, marked, isImage, readMarked, readOn, Writes, Reads}
-use Rattle.image.proofs.Bodies.{head-length, head-mark, head-settings, head-level, head-count}
-use Rattle.image.proofs.Chains.{made-cells, made-good, block-next}
-use Rattle.image.proofs.Limits.{few, narrow, low, fours}
-use Rattle.image.proofs.Spelling.{mark-bytes, image-length, image-small, image-front, image-rest}
+use Rattle.layout.proofs.Bodies.{head-length, head-mark, head-settings, head-level, head-count}
+use Rattle.layout.proofs.Chains.{made-cells, made-good, block-next}
+use Rattle.layout.proofs.Limits.{few, narrow, low, fours}
+use Rattle.layout.proofs.Spelling.{mark-bytes, image-length, image-small, image-front, image-rest}
 
 -- a search that finds nothing
 least-none : (q : ℕ → Bool) (k m : ℕ) → ((j : ℕ) → m ≤ j → j < m + k → q j ≡ false) → least q k m ≡ m + k

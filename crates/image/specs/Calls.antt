@@ -17,8 +17,8 @@ use Rattle.sketch.specs.Sketches.{held, isSketch}
 use Rattle.sketch.specs.Calls.{noSketch, handed}
 use Rattle.image.specs.declared.Loaded.{Loaded}
 use Rattle.image.specs.declared.Header.{Header}
-use Rattle.image.specs.Images.{mark, imageOf, saidSettings, spelled}
-use Rattle.image.specs.Shapes.{Blocks, blocksIn, firstWrong}
+use Rattle.layout.specs.Images.{mark, imageOf, saidSettings, spelled}
+use Rattle.layout.specs.Shapes.{Blocks, blocksIn, firstWrong}
 
 -- what writing answers to a room of so many bytes: 4, 6, or the image's length (RULES: Refusals)
 unfoldable pub writeOn : Sketch → ℕ → Paper

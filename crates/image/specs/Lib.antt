@@ -1,4 +1,2 @@
 -- The definitions that the contracts cite.
-pub mod Images
-pub mod Shapes
 pub mod Calls

@@ -5,6 +5,7 @@ ghost use Rattle.sketch.specs.Sketches.{held};
 ghost use Rattle.image.specs.Calls.{Writes, Reads, loadedWith};
 use layout::BLOCK;
 use layout::blocks_for;
+use layout::writer::put_image;
 use rule::Settings;
 use rule::answers::Taken;
 use rule::answers::Written;
@@ -15,9 +16,7 @@ use rule::refusals::NOT_ONE;
 use sketch::PLACES;
 use sketch::Sketch;
 
-mod layout;
 mod reader;
-mod writer;
 
 // What the reader answers, and the sketch handed back beside it.
 pub struct Loaded {
@@ -53,7 +52,7 @@ pub fn write_from(
     if room.len() < len {
         return Written::Refused(NO_ROOM);
     }
-    writer::put_image(&mut room[0..len], settings, level, &cells[..n]);
+    put_image(&mut room[0..len], settings, level, &cells[..n]);
     Written::Length(len)
 }
 

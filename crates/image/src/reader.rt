@@ -1,33 +1,27 @@
 // Reading: the tests of the bytes where they stand, and the parts of the sketch that they spell.
 ghost use mathlib.Core.Path.{_≡_};
-ghost use Prim.Native.Nat.{_+_, _*_, _≤_};
-ghost use lib.ListN.{length, drop, replicate};
-ghost use Rattle.lists.specs.Rows.{pad, allZero};
-ghost use Rattle.block.specs.Little.{Bytes, numberAt};
-ghost use Rattle.image.specs.Images.{fieldsEnd, blocksFor, saidSettings, numbersIn, cellsIn};
-ghost use Rattle.image.specs.Shapes.{Blocks, firstWrong, blockShaped, blocksShaped, shaped};
+ghost use Prim.Native.Nat.{_*_, _≤_};
+ghost use lib.ListN.{length, replicate};
+ghost use Rattle.lists.specs.Rows.{allZero};
+ghost use Rattle.block.specs.Little.{Bytes};
+ghost use Rattle.layout.specs.Images.{fieldsEnd, blocksFor, saidSettings};
+ghost use Rattle.layout.specs.Shapes.{Blocks, firstWrong, blockShaped, blocksShaped, shaped};
 ghost use Rattle.image.specs.Calls.{HandsOver, Checked, rightLength, marked, readMarked, refusedHeader, faultIn, loadedWith};
 use crate::Header;
-use crate::layout::BLOCK;
-use crate::layout::CONTENT;
-use crate::layout::FIELDS_END;
-use crate::layout::FULL;
-use crate::layout::LARGEST;
-use crate::layout::MARK;
-use crate::layout::blocks_for;
-use crate::layout::smaller;
+use layout::BLOCK;
+use layout::CONTENT;
+use layout::FIELDS_END;
+use layout::FULL;
+use layout::LARGEST;
+use layout::MARK;
+use layout::blocks_for;
+use layout::cells::copy_all;
+use layout::cells::number_at;
+use layout::smaller;
 use rule::Settings;
 use rule::answers::Taken;
 use rule::refusals::BAD_IMAGE;
 use rule::refusals::BAD_SETTINGS;
-
-// The number in the four bytes at `at`.
-fn number_at(s: &[u8], at: usize) -> u32
-    requires { ⌜ at + 4 ≤ length (now s) ⌝ }
-    ensures { λ r. ⌜ (r ≡ numberAt 4 at (now (s .entry))) × Bytes (now (s .entry)) ⌝ }
-{
-    block::word_at(s, at) + 65536 * block::word_at(s, at + 2)
-}
 
 // No turn branches, so that the loop runs on whole vectors.
 fn zeros(s: &[u8]) -> bool
@@ -130,35 +124,6 @@ fn well_shaped(s: &[u8]) -> bool
         return false;
     }
     blocks_shaped(&s[BLOCK..], count)
-}
-
-// Copies the cells of a cell block, as many as the row has places.
-fn copy_cells(row: &mut [u32], s: &[u8])
-    requires { ⌜ 4 + 4 * length (now row) ≤ length (now s) ⌝ }
-    ensures { λ _. ⌜ now (row .exit) ≡ numbersIn (length (now (row .entry))) (drop 4 (now (s .entry))) ⌝ }
-{
-    let mut j: usize = 0;
-    while j < row.len() {
-        row[j] = number_at(s, 4 + 4 * j);
-        j = j + 1;
-    }
-}
-
-// Copies the cells of all cell blocks into a row of zeros.
-fn copy_all(row: &mut [u32], s: &[u8], count: usize)
-    requires { ⌜ (now row ≡ replicate 504 0) × (length (now s) ≡ 512 * blocksFor count) × (count ≤ 504) ⌝ }
-    ensures { λ _. ⌜ now (row .exit) ≡ pad 504 (cellsIn (blocksFor count) count (now (s .entry))) ⌝ }
-{
-    let blocks = s.len() / BLOCK;
-    let mut i: usize = 0;
-    while i < blocks {
-        let start = BLOCK * i;
-        let end = start + BLOCK;
-        let from = FULL * i;
-        let to = smaller(from + FULL, count);
-        copy_cells(&mut row[from..to], &s[start..end]);
-        i = i + 1;
-    }
 }
 
 pub fn clear_row(row: &mut [u32])

@@ -21,7 +21,7 @@ use Rattle.sketch.proofs.Worth.{weighs-about}
 use Rattle.sketch.specs.declared.Sketch.{Sketch}
 use Rattle.block.specs.Little.{bytesOf, numberOf}
 use Rattle.block.specs.Sums.{sumTo, plainOf, weightedOf, sealed}
-use Rattle.image.specs.Images.{bodyOf, cellBytes}
+use Rattle.layout.specs.Images.{bodyOf, cellBytes}
 use Rattle.kitchen.specs.Table.{Row, added, hashes, regions, passed, counted, opening, adding, checked, Says, table, samePaper, tests, holds}
 use Rattle.kitchen.specs.Table.{allHold, AllSay}
 

@@ -19,7 +19,7 @@ use Rattle.sketch.specs.Calls.{openOn, addOn}
 use Rattle.sketch.specs.Estimates.{about, standsFor, estimateOn}
 use Rattle.block.specs.Little.{bytesOf, numberAt}
 use Rattle.block.specs.Sums.{plainOf, weightedOf, sealed}
-use Rattle.image.specs.Images.{bodyOf}
+use Rattle.layout.specs.Images.{bodyOf}
 
 abbrev pub settings : ℕ → ℕ → ℕ → ℕ → ℕ → Settings
 settings n p a b capacity = record { n = n; p = p; a = a; b = b; capacity = capacity }

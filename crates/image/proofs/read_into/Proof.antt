@@ -7,7 +7,7 @@ use lib.ListN.{length}
 use native.Mathlib.Omega.{arith}
 use borrow.Author.Tests.{not-true, not-false}
 use borrow.Author.Needs.{needs}
-use Rattle.image.specs.Shapes.{Blocks, blocksIn, firstWrong}
+use Rattle.layout.specs.Shapes.{Blocks, blocksIn, firstWrong}
 use Rattle.image.specs.Calls.{rightLength}
 use Rattle.image.proofs.Answers.{length-facts, all-right, read-length, read-check, read-mark, read-on}
 use Rattle.image.proofs.read_into.Statement.{statement}

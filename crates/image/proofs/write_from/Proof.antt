@@ -11,8 +11,8 @@ use borrow.Author.Needs.{needs}
 use Rattle.sketch.specs.declared.Sketch.{Sketch}
 use Rattle.sketch.specs.Sketches.{held, isSketch, cellsOf}
 use Rattle.sketch.proofs.Facts.{sketch-facts, count-few}
-use Rattle.image.specs.Images.{imageOf}
-use Rattle.image.proofs.Limits.{writable, sketch-length}
+use Rattle.layout.specs.Images.{imageOf}
+use Rattle.layout.proofs.Limits.{writable, sketch-length}
 use Rattle.image.proofs.Answers.{write-not, write-short, write-done, room-put}
 use Rattle.image.proofs.write_from.Statement.{statement}
 use Rattle.image.proofs.write_from.Tie as tie

@@ -3,7 +3,7 @@ use mathlib.Core.Path.{ap, ap₂}
 use mathlib.Core.Bool.{_&&_}
 use lib.Dec.{eqb}
 use borrow.Author.Needs.{needs}
-use Rattle.image.specs.Shapes.{blockShaped}
+use Rattle.layout.specs.Shapes.{blockShaped}
 use Rattle.image.proofs.reader.block_shaped.Statement.{statement}
 use Rattle.image.proofs.reader.block_shaped.Tie as tie
 

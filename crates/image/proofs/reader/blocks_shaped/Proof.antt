@@ -4,9 +4,9 @@ use mathlib.Core.Path.{_≡_, sym, ap₂, _∙_}
 use native.Mathlib.Omega.{arith}
 use lib.ListN.{length, drop}
 use borrow.Author.Tests.{not-true, not-false}
-use Rattle.image.proofs.Turns.{block-length, shaped-off, shaped-on, shaped-end}
-use Rattle.image.specs.Images.{blocksFor}
-use Rattle.image.specs.Shapes.{blocksShaped}
+use Rattle.layout.proofs.Turns.{block-length, shaped-off, shaped-on, shaped-end}
+use Rattle.layout.specs.Images.{blocksFor}
+use Rattle.layout.specs.Shapes.{blocksShaped}
 use Rattle.image.proofs.reader.blocks_shaped.Statement.{statement}
 use Rattle.image.proofs.reader.blocks_shaped.Tie as tie
 

@@ -3,7 +3,7 @@ use Prim.Native.Nat.{_-_, _≤_}
 use mathlib.Core.Path.{_≡_, refl}
 use native.Mathlib.Omega.{arith}
 use lib.ListN.{length, take, replicate, length-set}
-use Rattle.image.proofs.Turns.{clear-more, clear-end}
+use Rattle.layout.proofs.Turns.{clear-more, clear-end}
 use Rattle.image.proofs.reader.clear_row.Statement.{statement}
 use Rattle.image.proofs.reader.clear_row.Tie as tie
 

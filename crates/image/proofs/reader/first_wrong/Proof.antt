@@ -5,8 +5,8 @@ use mathlib.Core.Bool.{not}
 use native.Mathlib.Omega.{arith}
 use Rattle.lists.specs.Searches.{least}
 use Rattle.block.specs.Sums.{blockGood}
-use Rattle.image.specs.Shapes.{blockAt, blocksIn, firstWrong}
-use Rattle.image.proofs.Turns.{wrong-start, wrong-here, wrong-later, wrong-none, block-length}
+use Rattle.layout.specs.Shapes.{blockAt, blocksIn, firstWrong}
+use Rattle.layout.proofs.Turns.{wrong-start, wrong-here, wrong-later, wrong-none, block-length}
 use Rattle.image.proofs.reader.first_wrong.Statement.{statement}
 use Rattle.image.proofs.reader.first_wrong.Tie as tie
 

@@ -5,9 +5,9 @@ use denote.Ref.{now}
 use lib.Dec.{eqb}
 use borrow.Author.Needs.{needs}
 use Rattle.block.specs.Little.{numberOf}
-use Rattle.image.specs.Images.{mark}
+use Rattle.layout.specs.Images.{mark}
 use Rattle.image.specs.Calls.{marked}
-use Rattle.image.proofs.Spelling.{mark-bytes}
+use Rattle.layout.proofs.Spelling.{mark-bytes}
 use Rattle.image.proofs.reader.has_mark.Statement.{statement}
 use Rattle.image.proofs.reader.has_mark.Tie as tie
 

@@ -5,8 +5,8 @@ use native.Mathlib.Omega.{arith}
 use lib.ListN.{length, length-replicate}
 use borrow.Author.Tests.{not-true, not-false}
 use borrow.Author.Needs.{needs}
-use Rattle.image.specs.Images.{fieldsEnd, saidLevel, saidCount}
-use Rattle.image.proofs.Spelling.{spelled-parts}
+use Rattle.layout.specs.Images.{fieldsEnd, saidLevel, saidCount}
+use Rattle.layout.proofs.Spelling.{spelled-parts}
 use Rattle.image.proofs.Answers.{marked-shape, marked-sketch, marked-done, shaped-size}
 use Rattle.image.proofs.reader.read_marked.Statement.{statement}
 use Rattle.image.proofs.reader.read_marked.Tie as tie

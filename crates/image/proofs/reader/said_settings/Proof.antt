@@ -1,6 +1,6 @@
 -- `image::reader::said_settings` meets its contract: five numbers read at their places. Assumes nothing.
 use borrow.Author.Needs.{needs}
-use Rattle.image.specs.Images.{saidSettings}
+use Rattle.layout.specs.Images.{saidSettings}
 use Rattle.image.proofs.reader.said_settings.Statement.{statement}
 use Rattle.image.proofs.reader.said_settings.Tie as tie
 

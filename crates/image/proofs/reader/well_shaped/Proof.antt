@@ -1,7 +1,7 @@
 -- `image::reader::well_shaped` meets its contract: a case for each test. Assumes nothing.
 use borrow.Author.Tests.{not-true, not-false}
 use borrow.Author.Needs.{needs}
-use Rattle.image.specs.Images.{fieldsEnd, saidCount}
+use Rattle.layout.specs.Images.{fieldsEnd, saidCount}
 use Rattle.image.proofs.Answers.{shape-count, shape-zeros, shape-all}
 use Rattle.image.proofs.reader.well_shaped.Statement.{statement}
 use Rattle.image.proofs.reader.well_shaped.Tie as tie
