@@ -70,7 +70,7 @@ pub fn put_sketch(row: &mut [u32], s: Settings, level: u32, count: u32, cells: &
     requires { ⌜ (length (now row) ≡ 511) × (length (now cells) ≡ 504) ⌝ }
     ensures { λ _. ⌜ now (row .exit) ≡ sketchRow (held s level count (now (cells .entry))) ⌝ }
 {
-    rows::stores::store(row, 7, cells);
+    stores::store(row, 7, cells);
     put_head(row, s, level, count);
 }
 

@@ -1,5 +1,3 @@
 -- The laws, for this crate and for those above it.
 pub mod Walks
-pub mod Merges
 pub mod Facts
-pub mod Hitting

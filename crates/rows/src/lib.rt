@@ -7,9 +7,6 @@ ghost use Rattle.lists.specs.Lists.{filter};
 ghost use Rattle.lists.specs.Rows.{allZero};
 ghost use Rattle.rule.specs.Rule.{Good, passes};
 ghost use Rattle.rows.specs.Walked.{cellsBelow, Ascending, allIn, inOrder, risesFrom};
-
-pub mod stores;
-
 use rule::Settings;
 
 // The cells of the row rise strictly from above 0, and each is at most n and passes at the level.

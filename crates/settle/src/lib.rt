@@ -41,9 +41,9 @@ fn store_at(
     ensures { λ r. ⌜ Stored (now (out .entry)) at (filter (passes settings level) (now (cells .entry))) r (now (out .exit)) ⌝ }
 {
     if own == level {
-        return rows::stores::store(out, at, cells);
+        return stores::store(out, at, cells);
     }
-    rows::stores::store_passing(out, at, settings, level, cells)
+    stores::store_passing(out, at, settings, level, cells)
 }
 
 // The same for the cells of two rows and the `hits` cells of lo..hi between them.
@@ -62,7 +62,7 @@ fn gathered(
     ensures { λ r. ⌜ Stored (now (out .entry)) 0 (sample settings (allOf (now (front .entry)) (now (back .entry)) lo hi) level) r (now (out .exit)) ⌝ }
 {
     let first = store_at(out, 0, settings, own, level, front);
-    let second = rows::stores::store_hits(out, first, settings, level, lo, hi, hits);
+    let second = stores::store_hits(out, first, settings, level, lo, hi, hits);
     store_at(out, second, settings, own, level, back)
 }
 
@@ -141,7 +141,7 @@ pub fn add_to(cells: &mut [u32], settings: Settings, kept: Kept, lo: u32, hi: u3
         j,
         hits,
     );
-    rows::stores::store(cells, 0, &out);
+    stores::store(cells, 0, &out);
     next
 }
 
@@ -159,7 +159,7 @@ fn thinned(out: &mut [u32], settings: Settings, level: u32, many: usize) -> Kept
     // No range: it lies after every cell.
     let end = settings.n;
     let l = above(settings, level, many, &out[..many], &[], end + 1, end);
-    let count = rows::stores::keep_passing(out, many, settings, l) as u32;
+    let count = stores::keep_passing(out, many, settings, l) as u32;
     Kept { level: l, count }
 }
 
@@ -177,9 +177,9 @@ fn merge_down(
     ensures { λ r. ⌜ Keeps settings (listed (now (cells .entry)) ∪ listed (now (others .entry))) level 1008 (r .level) (r .count) (now (out .exit)) ⌝ }
 {
     let end = store_at(out, PLACES, settings, own, level, others);
-    let many = rows::stores::unite(out, PLACES, end, cells);
+    let many = stores::unite(out, PLACES, end, cells);
     let kept = thinned(out, settings, level, many);
-    rows::stores::clear(out, kept.count as usize, 2 * PLACES);
+    stores::clear(out, kept.count as usize, 2 * PLACES);
     kept
 }
 

@@ -181,7 +181,7 @@ impl Sketch {
             &other.cells,
         );
         let mut cells = [0u32; PLACES];
-        rows::stores::store(&mut cells, 0, &both[..PLACES]);
+        stores::store(&mut cells, 0, &both[..PLACES]);
         Sketch {
             settings,
             level: kept.level,

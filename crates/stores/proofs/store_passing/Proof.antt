@@ -1,4 +1,4 @@
--- `rows::stores::store_passing` meets its contract. Assumes nothing.
+-- `stores::store_passing` meets its contract. Assumes nothing.
 use Prim.Native.Nat.{_-_, _<_, _≤_}
 use mathlib.Core.Path.{_≡_, refl}
 use native.Mathlib.Omega.{arith}
@@ -8,9 +8,9 @@ use Rattle.lists.specs.Lists.{filter}
 use Rattle.lists.specs.Rows.{Stored}
 use Rattle.lists.proofs.Stores.{stored-none}
 use Rattle.rule.specs.Rule.{passes}
 use Rattle.rows.proofs.Walks.{same-settings, hasher-ready, passing-room, passing-on, passing-off}
-use Rattle.rows.proofs.stores.store_passing.Statement.{statement}
-use Rattle.rows.proofs.stores.store_passing.Tie as tie
+use Rattle.stores.proofs.store_passing.Statement.{statement}
+use Rattle.stores.proofs.store_passing.Tie as tie
 
 abbrev Inv-loop : tie.InvT-loop
 Inv-loop out₀ at level row size hasher next₀ i₀ out next i = (i ≤ length row) × (length out ≡ length out₀)

@@ -1,4 +1,4 @@
--- `rows::stores::keep_passing` meets its contract. Assumes nothing.
+-- `stores::keep_passing` meets its contract. Assumes nothing.
 use Prim.Native.Nat.{_-_, _<_, _≤_}
 use mathlib.Core.Path.{_≡_, refl}
 use native.Mathlib.Omega.{arith}
@@ -7,9 +7,9 @@ use Rattle.lists.specs.Lists.{filter}
 use Rattle.lists.specs.Rows.{Stored}
 use Rattle.lists.proofs.Stores.{stored-none, stored-beyond}
 use Rattle.rule.specs.Rule.{passes}
 use Rattle.rows.proofs.Walks.{same-settings, hasher-ready, passing-on, passing-off}
-use Rattle.rows.proofs.stores.keep_passing.Statement.{statement}
-use Rattle.rows.proofs.stores.keep_passing.Tie as tie
+use Rattle.stores.proofs.keep_passing.Statement.{statement}
+use Rattle.stores.proofs.keep_passing.Tie as tie
 
 abbrev Inv-loop : tie.InvT-loop
 Inv-loop out₀ many level size hasher kept₀ i₀ out kept i = (i ≤ many) × (kept ≤ i) × (length out ≡ length out₀)

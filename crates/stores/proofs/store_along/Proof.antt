@@ -1,12 +1,12 @@
--- `rows::stores::store_along` meets its contract. Assumes nothing.
+-- `stores::store_along` meets its contract. Assumes nothing.
 use Prim.Native.Nat.{suc, _-_}
 use native.Mathlib.Omega.{arith}
 use borrow.Author.Needs.{needs}
 use Rattle.rule.proofs.Facts.{small}
 use Rattle.find.proofs.Counting.{hash-below}
-use Rattle.rows.proofs.Hitting.{Along, along-start, along-room, along-on, along-end}
-use Rattle.rows.proofs.stores.store_along.Statement.{statement}
-use Rattle.rows.proofs.stores.store_along.Tie as tie
+use Rattle.stores.proofs.Hitting.{Along, along-start, along-room, along-on, along-end}
+use Rattle.stores.proofs.store_along.Statement.{statement}
+use Rattle.stores.proofs.store_along.Tie as tie
 
 abbrev Inv-loop : tie.InvT-loop
 Inv-loop out₀ at settings level first hi far strides hit₀ next₀ out hit next = Along out₀ at settings level first hi out next hit

@@ -1,4 +1,4 @@
--- `rows::stores::slide` meets its contract. Assumes nothing.
+-- `stores::slide` meets its contract. Assumes nothing.
 use Prim.Native.Nat.{_+_, _-_, _<_, _≤_}
 use mathlib.Core.Path.{_≡_, refl}
 use native.Mathlib.Omega.{arith}
@@ -7,8 +7,8 @@ use lib.Seq.{slice, slice-empty}
 use Rattle.lists.specs.Rows.{Stored}
 use Rattle.lists.proofs.Steps.{slice-next}
 use Rattle.lists.proofs.Stores.{stored-none, stored-more, stored-beyond}
-use Rattle.rows.proofs.stores.slide.Statement.{statement}
-use Rattle.rows.proofs.stores.slide.Tie as tie
+use Rattle.stores.proofs.slide.Statement.{statement}
+use Rattle.stores.proofs.slide.Tie as tie
 
 abbrev Inv-loop : tie.InvT-loop
 Inv-loop out₀ at from end next₀ i₀ out next i =

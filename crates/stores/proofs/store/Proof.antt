@@ -1,4 +1,4 @@
--- `rows::stores::store` meets its contract. Assumes nothing.
+-- `stores::store` meets its contract. Assumes nothing.
 use Prim.Native.Nat.{_+_, _-_, _<_, _≤_}
 use mathlib.Core.Path.{_≡_, refl}
 use native.Mathlib.Omega.{arith}
@@ -8,8 +8,8 @@ use lib.Seq.{take-all}
 use Rattle.lists.specs.Rows.{Stored}
 use Rattle.lists.proofs.Steps.{take-next}
 use Rattle.lists.proofs.Stores.{stored-none, stored-more}
-use Rattle.rows.proofs.stores.store.Statement.{statement}
-use Rattle.rows.proofs.stores.store.Tie as tie
+use Rattle.stores.proofs.store.Statement.{statement}
+use Rattle.stores.proofs.store.Tie as tie
 
 abbrev Inv-loop : tie.InvT-loop
 Inv-loop out₀ at row i₀ out i = (i ≤ length row) × (length out ≡ length out₀) × Stored out₀ at (take i row) (at + i) out

@@ -1,4 +1,4 @@
--- `rows::stores::unite` meets its contract. Assumes nothing.
+-- `stores::unite` meets its contract. Assumes nothing.
 use Prim.Native.Nat.{ℕ, _-_, _<_, _≤_}
 use mathlib.Core.Path.{_≡_, ap, _∙_}
 use mathlib.Core.Logic.{⊎-elim, inl, inr}
@@ -9,9 +9,9 @@ use lib.ListN.{length, drop, length-drop}
 use borrow.Author.Tests.{ltb-true, ltb-false}
 use Rattle.lists.specs.Rows.{Stored}
 use Rattle.lists.proofs.Steps.{part-rest}
-use Rattle.rows.proofs.Merges.{Merging, merge-start, merge-on, merge-room, merge-end}
-use Rattle.rows.proofs.stores.unite.Statement.{statement}
-use Rattle.rows.proofs.stores.unite.Tie as tie
+use Rattle.stores.proofs.Merges.{Merging, merge-start, merge-on, merge-room, merge-end}
+use Rattle.stores.proofs.unite.Statement.{statement}
+use Rattle.stores.proofs.unite.Tie as tie
 
 abbrev Inv-loop : tie.InvT-loop
 Inv-loop out₀ at end row next₀ i₀ j₀ out next i j = Merging out₀ row at end out next i j

@@ -1,12 +1,12 @@
--- `rows::stores::clear` meets its contract. Assumes nothing.
+-- `stores::clear` meets its contract. Assumes nothing.
 use Prim.Native.Nat.{ℕ, _+_, _-_, _≤_}
 use mathlib.Core.Path.{_≡_, refl, ap, _∙_}
 use native.Mathlib.Omega.{arith}
 use lib.ListN.{length, replicate, length-set, replicate-append-replicate}
 use Rattle.lists.specs.Rows.{Stored}
 use Rattle.lists.proofs.Stores.{stored-none, stored-more, stored-as}
-use Rattle.rows.proofs.stores.clear.Statement.{statement}
-use Rattle.rows.proofs.stores.clear.Tie as tie
+use Rattle.stores.proofs.clear.Statement.{statement}
+use Rattle.stores.proofs.clear.Tie as tie
 
 abbrev Inv-loop : tie.InvT-loop
 Inv-loop out₀ from end place₀ out place = (from ≤ place) × (place ≤ end) × (length out ≡ length out₀) × Stored out₀ from (replicate (place - from) 0) place out

@@ -1,13 +1,13 @@
--- `rows::stores::store_hits` meets its contract. Assumes nothing.
+-- `stores::store_hits` meets its contract. Assumes nothing.
 use mathlib.Core.Path.{sym, _∙_}
 use native.Mathlib.Omega.{arith}
 use Rattle.rule.specs.Samples.{nextHit}
 use Rattle.rule.proofs.NextHits.{next-some}
 use Rattle.find.proofs.Counting.{count-none}
-use Rattle.rows.proofs.Hitting.{cell-next, nothing-next, never-refused, hits-none, hits-one, hits-from}
+use Rattle.stores.proofs.Hitting.{cell-next, nothing-next, never-refused, hits-none, hits-one, hits-from}
 use borrow.Author.Needs.{needs}
-use Rattle.rows.proofs.stores.store_hits.Statement.{statement}
-use Rattle.rows.proofs.stores.store_hits.Tie as tie
+use Rattle.stores.proofs.store_hits.Statement.{statement}
+use Rattle.stores.proofs.store_hits.Tie as tie
 
 returns : tie.Need-returns
 returns c = let start = c .before .before in hits-none _ _ _ _ (count-none _ _ _ _ (sym (start .pre .1) ∙ c .if1 .taken)) _ _

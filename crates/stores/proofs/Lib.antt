@@ -1,0 +1,3 @@
+-- The laws of filling rows.
+pub mod Hitting
+pub mod Merges
