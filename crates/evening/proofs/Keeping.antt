@@ -77,8 +77,8 @@ told-other : (paper : Paper) (text : List ℕ → List ℕ) → ((values : List 
 told-other (answered values) text other = other values
 told-other (refused number place) text other = refl
 
-estimate-other : (level count : ℕ) → beginsK (estimateText level count) ≡ false
-estimate-other level count = ⊎-elim (λ (e : eqb level 0 ≡ true). rw e) (λ (e : eqb level 0 ≡ false). rw e) (tested (eqb level 0))
+estimate-other : (settings : Settings) (level count : ℕ) → beginsK (estimateText settings level count) ≡ false
+estimate-other settings level count = ⊎-elim (λ (e : eqb level 0 ≡ true). rw e) (λ (e : eqb level 0 ≡ false). rw e) (tested (eqb level 0))
 
 cell-other : (values : List ℕ) → beginsK (cellText values) ≡ false
 cell-other [] = refl
@@ -89,9 +89,9 @@ unfolding replyTo
 command-leaves pot (command.Settings n p a b capacity) = open-leaves pot (record { n = n; p = p; a = a; b = b; capacity = capacity })
 command-leaves pot (command.Add lo hi) = add-leaves pot lo hi
 command-leaves pot command.Estimate =
-    let level = pot .sketch .level in
-    let count = pot .sketch .count in
-    (told-other (whenOpen (pot .opened) (answered [])) (λ values. estimateText level count) (λ values. estimate-other level count), refl)
+    let k = pot .sketch in
+    let text = estimateText (k .settings) (k .level) (k .count) in
+    (told-other (whenOpen (pot .opened) (answered [])) (λ values. text) (λ values. estimate-other (k .settings) (k .level) (k .count)), refl)
 command-leaves pot (command.Count level lo hi) =
     (told-other (whenOpen (pot .opened) (countOn (pot .sketch .settings) level lo hi)) countText (λ values. refl), refl)
 command-leaves pot (command.Next level from) =

@@ -1,7 +1,7 @@
 -- What the calls answer is fixed, and each line gets one line.
 --     tells-tight, feeds-tight, rest-tight     two outcomes that one promise allows coincide
 --     reply-line      an answer is one line of at most 40 bytes
---     printed, estimate-printed    E prints what the estimate answers: the whole number, or that which the float denotes
+--     printed, estimate-printed    E prints what the estimate answers: the whole number, or the float's whole part
 -- Assumes nothing.
 use mathlib.Core.Path.{_≡_, refl, sym, ap, _∙_}
 use mathlib.Core.Bool.{true, false}
@@ -11,6 +11,7 @@ use Prim.Native.Nat.{ℕ}
 use native.Mathlib.Omega.{arith}
 use lib.Dec.{eqb}
 use lib.ListN.{take, getD}
+use lib.Ieee.{toUnsigned}
 use borrow.Author.Tests.{eqb-true, eqb-false}
 use Rattle.lists.specs.Rows.{Stored}
 use Rattle.lists.proofs.Tests.{tested}
@@ -22,9 +23,9 @@ use Rattle.sketch.specs.declared.Sketch.{Sketch}
 use Rattle.sketch.specs.Sketches.{Sound, isSketch, opened, add}
 use Rattle.sketch.specs.Calls.{openOn, addOn}
 use Rattle.sketch.specs.declared.estimates.Estimate.{Estimate}
-use Rattle.sketch.specs.Estimates.{Weight, exactly, about, ofEstimate, standsAt, standsFor, Estimates}
+use Rattle.sketch.specs.Estimates.{Weight, exactly, about, ofEstimate, standsAt, Estimates}
 use Rattle.sketch.proofs.Facts.{facts-sketch}
-use Rattle.sketch.proofs.Worth.{level-small, weighs-exact, weighs-about}
+use Rattle.sketch.proofs.Worth.{level-small, float-whole, weighs-exact, weighs-about}
 use Rattle.line.specs.declared.commands.Command.{Command}
 use Rattle.line.specs.declared.commands.Command.the-variants as command
 use Rattle.line.specs.Lines.{commandOf}
@@ -69,11 +70,11 @@ kept-one : (pot : Pot) (paper : Paper) (k : Sketch) → ((values : List ℕ) →
 kept-one pot (answered values) k f = kept-line (k .level) (k .count) (omega (arith, level-small k (f values refl)))
 kept-one pot (refused number place) k f = refusal-line number
 
-estimate-line : (level count : ℕ) → OneLine (estimateText level count)
-estimate-line level count =
+estimate-line : (settings : Settings) (level count : ℕ) → OneLine (estimateText settings level count)
+estimate-line settings level count =
     ⊎-elim
     (λ (e : eqb level 0 ≡ true). rw e (exact-line count))
-    (λ (e : eqb level 0 ≡ false). rw e (about-line (standsAt level count)))
+    (λ (e : eqb level 0 ≡ false). rw e (about-line (standsAt settings level count)))
     (tested (eqb level 0))
 
 cell-text-line : (values : List ℕ) → OneLine (cellText values)
@@ -88,9 +89,9 @@ command-line pot (command.Settings n p a b capacity) w =
 command-line pot (command.Add lo hi) w =
     kept-one pot (whenOpen (pot .opened) (addOn (pot .sketch) lo hi)) (add (pot .sketch) lo hi) (added-sound pot lo hi w)
 command-line pot command.Estimate w =
-    let level = pot .sketch .level in
-    let count = pot .sketch .count in
-    told-line (whenOpen (pot .opened) (answered [])) (λ values. estimateText level count) (λ values. estimate-line level count)
+    let k = pot .sketch in
+    told-line (whenOpen (pot .opened) (answered [])) (λ values. estimateText (k .settings) (k .level) (k .count))
+    (λ values. estimate-line (k .settings) (k .level) (k .count))
 command-line pot (command.Count level lo hi) w =
     told-line (whenOpen (pot .opened) (countOn (pot .sketch .settings) level lo hi)) countText (λ values. count-line (getD values 0 0))
 command-line pot (command.Next level from) w =
@@ -101,16 +102,16 @@ pub reply-line : (pot : Pot) (line : List ℕ) → Sits pot → OneLine (replyOf
 unfolding replyOf
 reply-line pot line w = command-line pot (commandOf line) w
 
--- what an estimate tells, in print, where it is worth m
-abbrev pub printed : Outcome Weight → ℕ → List ℕ
-printed (answered (exactly v)) m = textExact v
-printed (answered (about x)) m = textAbout m
-printed (refused number place) m = textRefusal number
+-- what an estimate tells, in print: of a float its whole part
+abbrev pub printed : Outcome Weight → List ℕ
+printed (answered (exactly v)) = textExact v
+printed (answered (about x)) = textAbout (toUnsigned 64 x)
+printed (refused number place) = textRefusal number
 
-pub estimate-printed : (k : Sketch) (r : Estimate) → Sound k → Estimates k r → estimateText (k .level) (k .count) ≡ printed (ofEstimate r) (standsFor k)
+pub estimate-printed : (k : Sketch) (r : Estimate) → Sound k → Estimates k r → estimateText (k .settings) (k .level) (k .count) ≡ printed (ofEstimate r)
 estimate-printed k r w e =
     let s : isSketch k ≡ true = facts-sketch k w in
     ⊎-elim
     (λ (l : eqb (k .level) 0 ≡ true). rw (l, e .answer ∙ weighs-exact k s (eqb-true (k .level) 0 l)))
-    (λ (l : eqb (k .level) 0 ≡ false). rw (l, e .answer ∙ weighs-about k s (eqb-false (k .level) 0 l)))
+    (λ (l : eqb (k .level) 0 ≡ false). rw (l, e .answer ∙ weighs-about k s (eqb-false (k .level) 0 l), float-whole k w))
     (tested (eqb (k .level) 0))

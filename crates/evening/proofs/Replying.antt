@@ -47,11 +47,11 @@ module _ (isOpen : Bool) (paper : Paper) (text : List ℕ → List ℕ) where
   pub told-answered : isOpen ≡ true → (values : List ℕ) → paper ≡ answered values → text values ≡ paperText (whenOpen isOpen paper) text
   told-answered o values e = rw (o, e)
 
-module _ (level count : ℕ) where
-  pub estimate-exact : level ≡ 0 → textExact count ≡ estimateText level count
+module _ (settings : Settings) (level count : ℕ) where
+  pub estimate-exact : level ≡ 0 → textExact count ≡ estimateText settings level count
   estimate-exact e = rw (eq-eqb level 0 e)
 
-  pub estimate-about : (level ≡ 0 → ⊥) → textAbout (standsAt level count) ≡ estimateText level count
+  pub estimate-about : (level ≡ 0 → ⊥) → textAbout (standsAt settings level count) ≡ estimateText settings level count
   estimate-about z = rw (ne-eqb level 0 z)
 
 module _ (pot : Pot) (paper : Paper) (k : Sketch) where

@@ -49,9 +49,9 @@ kept k = record { text = textKept (k .level) (k .count); pot = potOf k }
 abbrev pub says : Pot → List ℕ → Reply
 says pot text = record { text = text; pot = pot }
 
--- `E exact v` at level 0, and `E about v` above it
-abbrev pub estimateText : ℕ → ℕ → List ℕ
-estimateText level count = cond (eqb level 0) (textExact count) (textAbout (standsAt level count))
+-- `E exact v` at level 0, and `E about v` above it, in whole numbers
+abbrev pub estimateText : Settings → ℕ → ℕ → List ℕ
+estimateText settings level count = cond (eqb level 0) (textExact count) (textAbout (standsAt settings level count))
 
 -- `C v`
 abbrev pub countText : List ℕ → List ℕ
@@ -85,11 +85,11 @@ abbrev pub addReply : Pot → ℕ → ℕ → Reply
 addReply pot lo hi = keptIf pot (whenOpen (pot .opened) (addOn (pot .sketch) lo hi)) (add (pot .sketch) lo hi)
 
 -- E estimates; what it tells, and its reply
-abbrev pub estimateTold : Bool → ℕ → ℕ → List ℕ
-estimateTold isOpen level count = paperText (whenOpen isOpen (answered [])) (λ values. estimateText level count)
+abbrev pub estimateTold : Bool → Settings → ℕ → ℕ → List ℕ
+estimateTold isOpen settings level count = paperText (whenOpen isOpen (answered [])) (λ values. estimateText settings level count)
 
 abbrev pub estimateReply : Pot → Reply
-estimateReply pot = says pot (estimateTold (pot .opened) (pot .sketch .level) (pot .sketch .count))
+estimateReply pot = says pot (estimateTold (pot .opened) (pot .sketch .settings) (pot .sketch .level) (pot .sketch .count))
 
 -- C counts and N finds, both with the open settings; what they tell, and their replies
 abbrev pub countTold : Bool → Settings → ℕ → ℕ → ℕ → List ℕ

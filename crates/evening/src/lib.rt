@@ -121,7 +121,14 @@ fn answer_estimate(pot: Pot, out: &mut [u8], at: usize) -> Told
     requires { ⌜ Sits pot × Room (now out) at ⌝ }
     ensures { λ r. ⌜ Tells (now (out .entry)) at (estimateReply pot) (now (out .exit)) r ⌝ }
 {
-    let next = tell_estimate(pot.opened, pot.sketch.level, pot.sketch.count, out, at);
+    let next = tell_estimate(
+        pot.opened,
+        pot.sketch.settings,
+        pot.sketch.level,
+        pot.sketch.count,
+        out,
+        at,
+    );
     Told { pot, next }
 }
 

@@ -1,8 +1,5 @@
 // The lines that only read, `E`, `C` and `N`: each stores its text and answers the place after it. The
 // pot doesn't pass through them, as it would be copied.
-ghost use mathlib.Core.Path.{_≡_};
-ghost use mathlib.Core.Bool.{true};
-ghost use Prim.Native.Nat.{_≤_};
 ghost use Rattle.lists.specs.Rows.{Stored};
 ghost use Rattle.evening.specs.Replies.{Room};
 ghost use Rattle.evening.specs.Replies.{estimateTold, countTold, nextTold};
@@ -12,9 +9,16 @@ use rule::answers::Found;
 use rule::refusals::NOT_ONE;
 
 // `E exact v` or `E about v`
-pub fn tell_estimate(opened: bool, level: u32, count: u32, out: &mut [u8], at: usize) -> usize
-    requires { ⌜ (opened ≡ true → level ≤ 31) × Room (now out) at ⌝ }
-    ensures { λ r. ⌜ Stored (now (out .entry)) at (estimateTold opened level count) r (now (out .exit)) ⌝ }
+pub fn tell_estimate(
+    opened: bool,
+    settings: Settings,
+    level: u32,
+    count: u32,
+    out: &mut [u8],
+    at: usize,
+) -> usize
+    requires { ⌜ Room (now out) at ⌝ }
+    ensures { λ r. ⌜ Stored (now (out .entry)) at (estimateTold opened settings level count) r (now (out .exit)) ⌝ }
 {
     if !opened {
         return line::put_refusal(out, at, NOT_ONE);
@@ -22,7 +26,7 @@ pub fn tell_estimate(opened: bool, level: u32, count: u32, out: &mut [u8], at: u
     if level == 0 {
         return line::put_exact(out, at, count as u64);
     }
-    line::put_about(out, at, sketch::stands_at(level, count))
+    line::put_about(out, at, sketch::stands_at(settings, level, count))
 }
 
 // `C level lo hi`

@@ -2,24 +2,23 @@
 --     told, given, begun    an inner call's promise gives the boundary's: a number with a value, with a sketch's row, with a walker's
 --     gives-refused, gives-done    adding and merging, by their answer
 --     adds-told, plain-adds-told, merges-told, adds-kept, merges-kept    what they answer and keep on the rows lent
---     double-stands    the double of a sketch is the number of cells that it stands for
---     double-worth     with nothing lost
+--     double-stands    the double of a sketch, at level 0 too, is the number of cells times p, divided by the region's size
+--     double-worth     and lies near that
 -- Assumes nothing.
 use mathlib.Core.Path.{_≡_, sym, ap, _∙_}
 use mathlib.Core.Bool.{Bool, true, false}
 use mathlib.Core.Logic.{⊎-elim}
 use mathlib.Core.List.{List, []}
-use Prim.Native.Nat.{ℕ, _-_, max}
+use Prim.Native.Nat.{ℕ, _-_, _*_, max}
 use lib.ListN.{length, take, drop}
 use lib.Dec.{eqb}
-use lib.IntN.{pos}
-use lib.Ieee.{binary64, ofInt}
-use lib.Ieee.Exact.{HasValue}
 use borrow.Author.Tests.{eqb-true, eqb-false}
 use Rattle.lists.specs.Lists.{listed}
 use Rattle.lists.proofs.Tests.{tested}
 use Rattle.lists.proofs.Steps.{part-rest}
+use Rattle.floats.specs.Quotients.{Near}
 use Rattle.rule.specs.declared.Settings.{Settings}
+use Rattle.rule.specs.Rule.{region}
 use Rattle.rule.specs.Cells.{_∪_, interval}
 use Rattle.rule.specs.Refusals.{Paper, answered, refused, ofAnswer}
 use Rattle.find.specs.declared.Started.{Started}
@@ -30,10 +29,10 @@ use Rattle.settle.specs.declared.Kept.{Kept}
 use Rattle.settle.specs.Settling.{Keeps, keptIn}
 use Rattle.sketch.specs.Sketches.{held, keptOf, isSketch, add, merge}
 use Rattle.sketch.specs.Calls.{Hands, handed, addWhen, addOn, mergeWhen, mergeOn}
-use Rattle.sketch.specs.Estimates.{standsFor, estimateOn}
-use Rattle.sketch.proofs.Facts.{sketch-facts, count-few}
+use Rattle.sketch.specs.Estimates.{timesP, floatFor, estimateOn}
+use Rattle.sketch.proofs.Facts.{sketch-facts}
 use Rattle.sketch.proofs.Handing.{add-told, merge-told, kept-add, kept-merge}
-use Rattle.sketch.proofs.Worth.{level-small, stands-at-zero, worth-about, weighs-exact, weighs-about}
+use Rattle.sketch.proofs.Worth.{float-near, float-exact, region-zero, weighs-exact, weighs-about}
 use Rattle.plain.specs.Plain.{plainAddWhen, plainAddOn}
 use Rattle.plain.proofs.Calls.{plain-told}
 use Rattle.crossing.specs.Crossing.{settingsFrom, sketchRow, sketchIn, walkerRow, toldNumber, doubleOf, Crosses}
@@ -93,16 +92,15 @@ pub begun : {s : Settings} {level lo hi r : ℕ} {t : Started} {after : List ℕ
     → Starts s level lo hi t → Begins s level lo hi r after
 begun n w h = record { number = n ∙ ap toldNumber (h .answer); row = w ∙ ap walkerRow (h .walker) }
 
-pub double-stands : (k : Sketch) → isSketch k ≡ true → doubleOf (estimateOn k) ≡ ofInt binary64 (pos (standsFor k))
+pub double-stands : (k : Sketch) → isSketch k ≡ true → doubleOf (estimateOn k) ≡ floatFor k
 double-stands k e =
     ⊎-elim
     (λ (z : eqb (k .level) 0 ≡ true).
     let zero = eqb-true (k .level) 0 z in
-    ap doubleOf (weighs-exact k e zero) ∙ ap (λ (m : ℕ). ofInt binary64 (pos m)) (stands-at-zero (k .level) (k .count) zero))
+    let all = sym (ap (λ (r : ℕ). k .count * r) (region-zero (k .settings) (k .level) zero)) in
+    ap doubleOf (weighs-exact k e zero) ∙ sym (float-exact k (sketch-facts k e) (k .count) all))
     (λ (z : eqb (k .level) 0 ≡ false). ap doubleOf (weighs-about k e (eqb-false (k .level) 0 z)))
     (tested (eqb (k .level) 0))
 
-pub double-worth : (k : Sketch) → isSketch k ≡ true → HasValue (doubleOf (estimateOn k)) false (standsFor k) 1
-double-worth k e =
-    let w = sketch-facts k e in
-    rw (double-stands k e) (worth-about (k .level) (k .count) (level-small k w) (count-few k w))
+pub double-worth : (k : Sketch) → isSketch k ≡ true → Near (timesP (k .settings) (k .count)) (region (k .settings) (k .level)) (doubleOf (estimateOn k))
+double-worth k e = rw (double-stands k e) (float-near k (sketch-facts k e))

@@ -4,11 +4,11 @@ use mathlib.Core.Path.{_≡_, refl, ap, _∙_}
 use mathlib.Core.Bool.{true, false, and-eq-true-iff, false≢true}
 use mathlib.Core.List.{List, [], _∷_}
 use lib.Dec.{eqb}
-use lib.IntN.{pos}
-use lib.Ieee.{binary64, ofInt}
+use lib.Ieee.{Float, toBits, ofInt, round, div}
 use borrow.Author.Tests.{eqb-true, eqb-false, not-true}
 use Rattle.lists.specs.Lists.{same}
 use Rattle.lists.proofs.Same.{same-true}
+use Rattle.floats.specs.Quotients.{float, over}
 use Rattle.rule.specs.Rule.{hash, region, passes, top, isGood, commonDivisor, dividesBoth}
 use Rattle.rule.specs.Samples.{rangeCount, passing, sample, fits, lowest}
 use Rattle.rule.specs.Refusals.{Paper, answered, refused}
@@ -16,18 +16,19 @@ use Rattle.rule.proofs.Facts.{each as all-true}
 use Rattle.find.specs.Finding.{countOn}
 use Rattle.sketch.specs.Sketches.{isSketch, sketchAt, sketchFrom, cellsOf, opened, add}
 use Rattle.sketch.specs.Calls.{openOn, addOn}
-use Rattle.sketch.specs.Estimates.{about, standsAt, standsFor, estimateOn}
-use Rattle.sketch.proofs.Worth.{weighs-about}
+use Rattle.sketch.specs.Estimates.{about, estimateOn}
+use Rattle.sketch.proofs.Worth.{float-exact, weighs-about}
+use Rattle.sketch.proofs.Facts.{sketch-facts}
 use Rattle.sketch.specs.declared.Sketch.{Sketch}
 use Rattle.block.specs.Little.{bytesOf, numberOf}
 use Rattle.block.specs.Sums.{sumTo, plainOf, weightedOf, sealed}
 use Rattle.layout.specs.Images.{bodyOf, cellBytes}
-use Rattle.kitchen.specs.Table.{Row, added, hashes, regions, passed, counted, opening, adding, checked, Says, table, samePaper, tests, holds}
-use Rattle.kitchen.specs.Table.{allHold, AllSay}
+use Rattle.kitchen.specs.Table.{Row, added, divides, hashes, regions, passed, counted, opening, adding, checked, divided, Says, table, samePaper}
+use Rattle.kitchen.specs.Table.{tests, holds, allHold, AllSay}
 
 pub test : allHold table ≡ true
-unfolding holds same isSketch standsAt hash region passes top isGood commonDivisor dividesBoth rangeCount passing sample fits lowest countOn
-    sketchAt sketchFrom cellsOf opened add openOn addOn bytesOf numberOf sumTo plainOf weightedOf sealed bodyOf cellBytes
+unfolding holds same isSketch hash region passes top isGood commonDivisor dividesBoth rangeCount passing sample fits lowest countOn
+    sketchAt sketchFrom cellsOf opened add openOn addOn bytesOf numberOf sumTo plainOf weightedOf sealed bodyOf cellBytes toBits over div ofInt round
 test = refl
 
 same-paper : (x y : Paper) → samePaper x y ≡ true → x ≡ y
@@ -40,9 +41,10 @@ same-paper (refused n b) (refused m c) e =
     let j : b ≡ c = eqb-true b c (h .1) in
     cc
 
--- a sketch above level 0 is estimated as about what it stands for
-above : (k : Sketch) (m : ℕ) → isSketch k ≡ true → eqb (k .level) 0 ≡ false → standsFor k ≡ m → estimateOn k ≡ answered (about (ofInt binary64 (pos m)))
-above k m a b e = weighs-about k a (eqb-false (k .level) 0 b) ∙ ap (λ (v : ℕ). answered (about (ofInt binary64 (pos v)))) e
+-- a sketch above level 0 is estimated as about m, where the region's size divides
+above : (k : Sketch) (m : ℕ) → isSketch k ≡ true → eqb (k .level) 0 ≡ false → divides k m ≡ true → estimateOn k ≡ answered (about (float m))
+above k m a b e =
+    weighs-about k a (eqb-false (k .level) 0 b) ∙ ap (λ (x : Float). answered (about x)) (float-exact k (sketch-facts k a) m (eqb-true _ _ e))
 
 -- a row that holds is true
 pub says : (r : Row) → holds r ≡ true → Says r
@@ -60,11 +62,12 @@ says (adding s lo hi level xs m) e =
       same-paper _ _ (h .1 .0),
       eqb-true _ _ (h .1 .1 .0),
       same-true _ _ (h .1 .1 .1 .0),
-      above k m (estimate .0) (not-true (eqb (k .level) 0) (estimate .1 .0)) (eqb-true (standsFor k) m (estimate .1 .1 .0)),
+      above k m (estimate .0) (not-true (eqb (k .level) 0) (estimate .1 .0)) (estimate .1 .1 .0),
     )
 says (checked body plain weighted) e =
     let h = all-true (tests (checked body plain weighted)) e in
     (eqb-true _ _ (h .0), eqb-true _ _ (h .1 .0), eqb-true _ _ (h .1 .1 .0), eqb-true _ _ (h .1 .1 .1 .0))
+says (divided a b bits) e = eqb-true _ _ (all-true (tests (divided a b bits)) e .0)
 
 pub all-say : (rs : List Row) → allHold rs ≡ true → AllSay rs
 all-say [] e = tt

@@ -1,14 +1,14 @@
 -- The marked kitchen tests (RULES: Kitchen tests), and a few of ours after them: inputs and expected values as data, and what
 -- each row says. Assumes nothing: these are definitions.
-use Prim.Native.Nat.{ℕ}
+use Prim.Native.Nat.{ℕ, _*_}
 use mathlib.Core.Path.{_≡_}
 use mathlib.Core.Bool.{Bool, true, false, _&&_, not}
 use mathlib.Core.List.{List, [], _∷_, _++_}
 use lib.Dec.{eqb}
-use lib.IntN.{pos}
 use lib.ListN.{replicate}
-use lib.Ieee.{binary64, ofInt}
+use lib.Ieee.{binary64, toBits}
 use Rattle.lists.specs.Lists.{filter, range, same}
+use Rattle.floats.specs.Quotients.{float, over}
 use Rattle.rule.specs.declared.Settings.{Settings}
 use Rattle.rule.specs.Rule.{hash, region, passes, top, all}
 use Rattle.rule.specs.Refusals.{Paper, answered, refused}
@@ -16,7 +16,7 @@ use Rattle.find.specs.Finding.{countOn}
 use Rattle.sketch.specs.declared.Sketch.{Sketch}
 use Rattle.sketch.specs.Sketches.{isSketch, cellsOf, opened, add}
 use Rattle.sketch.specs.Calls.{openOn, addOn}
-use Rattle.sketch.specs.Estimates.{about, standsFor, estimateOn}
+use Rattle.sketch.specs.Estimates.{about, timesP, estimateOn}
 use Rattle.block.specs.Little.{bytesOf, numberAt}
 use Rattle.block.specs.Sums.{plainOf, weightedOf, sealed}
 use Rattle.layout.specs.Images.{bodyOf}
@@ -37,6 +37,7 @@ pub data Row : Type 0 where
   opening : Settings → Paper → Row
   adding : Settings → ℕ → ℕ → ℕ → List ℕ → ℕ → Row
   checked : List ℕ → ℕ → ℕ → Row
+  divided : ℕ → ℕ → ℕ → Row
 
 abbrev pub each : (ℕ → ℕ) → List ℕ → List ℕ
 each f [] = []
@@ -45,6 +46,10 @@ each f (x ∷ xs) = f x ∷ each f xs
 -- the sketch after opening and adding lo..hi
 abbrev pub added : Settings → ℕ → ℕ → Sketch
 added s lo hi = add (opened s) lo hi
+
+-- the number of cells times p, divided by the region's size, is m
+abbrev pub divides : Sketch → ℕ → Bool
+divides k m = eqb (timesP (k .settings) (k .count)) (m * region (k .settings) (k .level))
 
 -- what a row says
 abbrev pub Says : Row → Type 0
@@ -64,10 +69,12 @@ Says (adding s lo hi level xs m) =
     × (addOn (opened s) lo hi ≡ answered [])
     × (added s lo hi .level ≡ level)
     × (cellsOf (added s lo hi) ≡ xs)
-    × (estimateOn (added s lo hi) ≡ answered (about (ofInt binary64 (pos m))))
+    × (estimateOn (added s lo hi) ≡ answered (about (float m)))
 -- the two sums of what a block says, and the words that the sealed block holds at bytes 508 and 510
 Says (checked body plain weighted) =
     (plainOf body ≡ plain) × (weightedOf body ≡ weighted) × (numberAt 2 508 (sealed body) ≡ plain) × (numberAt 2 510 (sealed body) ≡ weighted)
+-- a / b as a float, by the 64 bits of that float
+Says (divided a b bits) = toBits binary64 (over a b) ≡ bits
 
 abbrev pub table : List Row
 table =
@@ -87,7 +94,7 @@ table =
     -- 7
     adding (settings 10 101 1 0 1) 1 10 6 [] 0 ∷
     -- 8
-    adding (settings 10 101 1 100 1) 1 10 6 (1 ∷ []) 64 ∷
+    adding (settings 10 101 1 100 1) 1 10 6 (1 ∷ []) 101 ∷
     -- 9
     checked (bodyOf 1 (1 ∷ [])) 3 759 ∷
     -- 10
@@ -106,8 +113,16 @@ table =
     -- the capacity at its last, and one above
     opening (settings 10 101 37 5 504) (answered []) ∷
     opening (settings 10 101 37 5 505) (refused 1 0) ∷
+    -- p 127 at the top, whose region has one hash
+    adding (settings 12 127 1 126 1) 1 12 6 (1 ∷ []) 127 ∷
     -- a block of zeros but its last word, word 254, which is 1
-    checked (replicate 506 0 ++ bytesOf 2 1) 1 1 ∷ []
+    checked (replicate 506 0 ++ bytesOf 2 1) 1 1 ∷
+    -- 4.04, and two cells of p 127 in a region of 3
+    divided 101 25 4616234654051032105 ∷
+    divided 254 3 4635658303943912107 ∷
+    -- just above the middle of two floats, and just below: 412 cells of p 3298323644 and 431 of p 3665002712, both at level 20
+    divided 1358909341328 3145 4736028802870619396 ∷
+    divided 1579616168872 3495 4736362315938522379 ∷ []
 
 -- the tests of a row, computed
 abbrev pub samePaper : Paper → Paper → Bool
@@ -130,12 +145,13 @@ tests (adding s lo hi level xs m) =
     -- the estimate
     isSketch (added s lo hi) ∷
     not (eqb (added s lo hi .level) 0) ∷
-    eqb (standsFor (added s lo hi)) m ∷ []
+    divides (added s lo hi) m ∷ []
 tests (checked body plain weighted) =
     eqb (plainOf body) plain ∷
     eqb (weightedOf body) weighted ∷
     eqb (numberAt 2 508 (sealed body)) plain ∷
     eqb (numberAt 2 510 (sealed body)) weighted ∷ []
+tests (divided a b bits) = eqb (toBits binary64 (over a b)) bits ∷ []
 
 unfoldable pub holds : Row → Bool
 holds r = all (tests r)

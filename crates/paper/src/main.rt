@@ -129,12 +129,16 @@ fn print_cells(cells: &[u32]) {
     }
 }
 
-// About: the number of cells, doubled once for each level.
-fn print_about(count: u32, level: u32) {
+// About: the number of cells times p, divided by the region's size; what is left over is let go.
+fn print_about(settings: Settings, level: u32, count: u32) {
     text(b", about ");
-    if level < 32 {
-        io::print_decimal(OUT, sketch::stands_at(level, count));
-    }
+    number(count);
+    text(b" * ");
+    number(settings.p);
+    text(b" / ");
+    number(settings.region(level));
+    text(b" = ");
+    io::print_decimal(OUT, sketch::stands_at(settings, level, count));
 }
 
 fn print_estimate(k: Sketch) {
@@ -143,7 +147,7 @@ fn print_estimate(k: Sketch) {
             text(b", exactly ");
             number(v);
         }
-        Estimate::About(_) => print_about(k.count, k.level),
+        Estimate::About(_) => print_about(k.settings, k.level, k.count),
         Estimate::Refused(_) => text(b", refused"),
     }
 }

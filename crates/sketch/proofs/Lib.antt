@@ -3,4 +3,5 @@ pub mod Facts
 pub mod Making
 pub mod Handing
 pub mod Worth
+pub mod Rates
 pub mod Results

@@ -1,58 +1,98 @@
--- The laws of the estimate: a number of cells times 2^level is held by a 64-bit float with nothing lost.
+-- The laws of the estimate: what cells kept at a level stand for, in whole numbers and as a float.
 --     level-small     the level of a sketch is below 32
---     shifted, in-float, worth-about    the shift loses nothing, and neither does the cast
---     stands-at-zero  at level 0 cells stand for themselves
+--     stands-none     at a level without a region nothing is kept
+--     few-enough      the number of cells times p is below 2^53
+--     float-near      the float lies near the fraction
+--     float-whole     its whole part is the whole number
+--     float-exact     where the region's size divides, nothing is rounded
+--     region-zero     at level 0 the region's size is p
 --     weighs-not, weighs-exact, weighs-about    what is told: all that those above know of the estimate
 --     estimate-worth  and what it is worth
 --     estimate-one    the reading of the enum is one-to-one
 -- Assumes nothing.
 use mathlib.Core.Path.{_≡_, sym, ap, _∙_}
-use mathlib.Core.Bool.{Bool, true, false, cond}
-use mathlib.Core.Logic.{⊎-elim}
-use Prim.Native.Nat.{ℕ, _*_, _%_, _^_, _<_, _≤_}
+use mathlib.Core.Bool.{true, false}
+use mathlib.Core.Logic.{_⊎_, inl, inr, ⊎-elim}
+use Prim.Native.Nat.{ℕ, _*_, _^_, _<_, _≤_}
 use native.Mathlib.Omega.{arith}
-use native.Mathlib.Nat.{le-trans, lt-of-le-of-lt, mul-le-mul, mul-one, mod-eq-of-lt}
-use lib.Dec.{T, eqb, le→leb, lit≤, lit<}
-use lib.IntN.{pos}
-use lib.Pow.{pow-mono}
-use lib.Ieee.{binary64, inFloat, ofInt}
-use lib.Ieee.Exact.{HasValue}
-use lib.Ieee.Back.{round-whole}
-use borrow.Author.Tests.{eq-eqb, ne-eqb, eqb-true, eqb-false}
+use native.Mathlib.Nat.{le-trans, le-of-eq, le-of-lt, lt-of-le-of-lt, mul-le-mul, mul-le-mul-right, one-mul, zero-mul, eq-zero-or-pos}
+use native.Mathlib.Nat.{div-zero, div-one, div-le-self}
+use lib.Dec.{eqb, lit≤, lit<}
+use lib.Ieee.{toUnsigned}
+use borrow.Author.Tests.{leb-true, le-leb, eq-eqb, ne-eqb, eqb-true, eqb-false}
 use Rattle.lists.proofs.Tests.{tested}
+use Rattle.floats.specs.Quotients.{float, Near}
+use Rattle.floats.proofs.Quotients.{over-exact, over-near, over-whole}
+use Rattle.rule.specs.declared.Settings.{Settings}
+use Rattle.rule.specs.Rule.{region}
 use Rattle.rule.specs.Refusals.{answered, refused, notOne}
-use Rattle.rule.proofs.Passing.{top-small}
+use Rattle.rule.proofs.Facts.{positive, small}
+use Rattle.rule.proofs.Passing.{top-small, level-within}
 use Rattle.sketch.specs.declared.Sketch.{Sketch}
 use Rattle.sketch.specs.declared.estimates.Estimate.{Estimate}
 use Rattle.sketch.specs.declared.estimates.Estimate.the-variants.{Exact, About, Refused}
 use Rattle.sketch.specs.Sketches.{isSketch, Sound}
-use Rattle.sketch.specs.Estimates.{exactly, about, ofEstimate, standsAt, standsFor, floatFor, estimateOn, Worth, Estimates}
+use Rattle.sketch.specs.Estimates.{exactly, about, ofEstimate, timesP, standsAt, floatAt, standsFor, floatFor, estimateOn, Worth, Estimates}
 use Rattle.sketch.proofs.Facts.{sketch-facts, count-few}
 
 pub level-small : (k : Sketch) → Sound k → k .level ≤ 31
 level-small k w = omega (arith, w .level, top-small (k .settings) (w .settings))
 
--- of any number of 32 bits
-pub shifted : (level count : ℕ) → level ≤ 31 → count < 2 ^ 32 → count * 2 ^ level % 18446744073709551616 ≡ standsAt level count
+pub stands-none : (s : Settings) (level count : ℕ) → region s level ≡ 0 → 0 ≡ standsAt s level count
 unfolding standsAt
-shifted level count hl hc = mod-eq-of-lt (lt-of-le-of-lt (mul-le-mul {n₂ = 2 ^ 32} (omega arith) (pow-mono hl)) (lit< tt))
+stands-none s level count z = rw z (sym (div-zero _))
 
-module _ (level count : ℕ) (hl : level ≤ 31) (hc : count ≤ 504) where
-  room : standsAt level count ≤ 504 * 2 ^ 31
-  unfolding standsAt
-  room = mul-le-mul hc (pow-mono hl)
+-- the fraction's two numbers
+module _ (k : Sketch) (w : Sound k) where
+  abbrev upper : ℕ
+  upper = timesP (k .settings) (k .count)
 
-  pub in-float : T (inFloat binary64 (pos (standsAt level count)))
-  unfolding inFloat
-  in-float = le→leb (standsAt level count) (2 ^ 53) (le-trans room (lit≤ tt))
+  abbrev lower : ℕ
+  lower = region (k .settings) (k .level)
 
-  pub worth-about : HasValue (ofInt binary64 (pos (standsAt level count))) false (standsAt level count) 1
-  unfolding ofInt
-  worth-about = round-whole binary64 false (standsAt level count) (le-trans room (lit≤ tt))
+  p-small : k .settings .p ≤ 4000000000
+  p-small = omega (arith, w .settings .p-high, w .settings .n-high)
 
-pub stands-at-zero : (level count : ℕ) → level ≡ 0 → count ≡ standsAt level count
-unfolding standsAt
-stands-at-zero level count z = rw z (sym (mul-one count))
+  room : upper < 2 ^ 53
+  room = lt-of-le-of-lt (mul-le-mul (count-few k w) p-small) (lit< tt)
+
+  pub few-enough : upper ≤ 2 ^ 53
+  few-enough = le-of-lt room
+
+  some : 0 < lower
+  some =
+      let s = k .settings in
+      leb-true 1 lower (level-within s (k .level) (positive s (w .settings)) (small s (w .settings)) ∙ le-leb _ _ (w .level))
+
+  lower-within : lower ≤ k .settings .p
+  unfolding region
+  lower-within = div-le-self (k .settings .p) (2 ^ k .level)
+
+  lower-small : lower ≤ 2 ^ 53
+  lower-small = le-trans lower-within (le-trans p-small (lit≤ tt))
+
+  none-or-more : (upper ≡ 0) ⊎ (lower ≤ upper)
+  none-or-more =
+      ⊎-elim
+      (λ (z : k .count ≡ 0). inl (ap (λ (n : ℕ). n * k .settings .p) z ∙ zero-mul (k .settings .p)))
+      (λ (c : 0 < k .count). inr (le-trans lower-within (le-trans (le-of-eq (sym (one-mul (k .settings .p)))) (mul-le-mul-right (k .settings .p) c))))
+      (eq-zero-or-pos (k .count))
+
+  pub float-near : Near upper lower (floatFor k)
+  unfolding floatAt
+  float-near = over-near upper lower some room lower-small none-or-more
+
+  pub float-whole : toUnsigned 64 (floatFor k) ≡ standsFor k
+  unfolding floatAt standsAt
+  float-whole = over-whole upper lower some room lower-small none-or-more
+
+  pub float-exact : (q : ℕ) → upper ≡ q * lower → floatFor k ≡ float q
+  unfolding floatAt
+  float-exact q e = over-exact q upper lower some e few-enough lower-small
+
+pub region-zero : (s : Settings) (level : ℕ) → level ≡ 0 → region s level ≡ s .p
+unfolding region
+region-zero s level z = rw z (div-one (s .p))
 
 module _ (k : Sketch) where
   pub weighs-not : isSketch k ≡ false → estimateOn k ≡ refused notOne 0
@@ -67,14 +107,15 @@ module _ (k : Sketch) where
   unfolding estimateOn
   weighs-about e z = rw (e, ne-eqb (k .level) 0 z)
 
-  worth-on : Worth (estimateOn k) (standsFor k)
+  worth-on : Worth (estimateOn k) (timesP (k .settings) (k .count)) (region (k .settings) (k .level))
   worth-on =
       ⊎-elim
       (λ (e : isSketch k ≡ true).
-      let w = sketch-facts k e in
       ⊎-elim
-      (λ (z : eqb (k .level) 0 ≡ true). rw (weighs-exact e (eqb-true (k .level) 0 z)) (stands-at-zero (k .level) (k .count) (eqb-true (k .level) 0 z)))
-      (λ (z : eqb (k .level) 0 ≡ false). rw (weighs-about e (eqb-false (k .level) 0 z)) (worth-about (k .level) (k .count) (level-small k w) (count-few k w)))
+      (λ (z : eqb (k .level) 0 ≡ true).
+      let zero = eqb-true (k .level) 0 z in
+      rw (weighs-exact e zero) (ap (λ (r : ℕ). k .count * r) (region-zero (k .settings) (k .level) zero)))
+      (λ (z : eqb (k .level) 0 ≡ false). rw (weighs-about e (eqb-false (k .level) 0 z)) (float-near k (sketch-facts k e)))
       (tested (eqb (k .level) 0)))
       (λ (e : isSketch k ≡ false). rw (weighs-not e) tt)
       (tested (isSketch k))

@@ -1,11 +1,12 @@
 -- What the estimate tells, and what it is worth. Assumes nothing: these are definitions.
-use Prim.Native.Nat.{ℕ, _*_, _^_}
+use Prim.Native.Nat.{ℕ, _*_, _/_}
 use mathlib.Core.Path.{_≡_}
-use mathlib.Core.Bool.{false, cond}
+use mathlib.Core.Bool.{cond}
 use lib.Dec.{eqb}
-use lib.IntN.{pos}
-use lib.Ieee.{Float, binary64, ofInt}
-use lib.Ieee.Exact.{HasValue}
+use lib.Ieee.{Float}
+use Rattle.floats.specs.Quotients.{over, Near}
+use Rattle.rule.specs.declared.Settings.{Settings}
+use Rattle.rule.specs.Rule.{region}
 use Rattle.rule.specs.Refusals.{Outcome, answered, refused, unless, notOne}
 use Rattle.sketch.specs.declared.Sketch.{Sketch}
 use Rattle.sketch.specs.declared.estimates.Estimate.{Estimate}
@@ -23,16 +24,23 @@ ofEstimate (Exact v) = answered (exactly v)
 ofEstimate (About x) = answered (about x)
 ofEstimate (Refused number) = refused number 0
 
--- how many cells so many kept at a level stand for: their number times 2^level
-unfoldable pub standsAt : ℕ → ℕ → ℕ
-standsAt level count = count * 2 ^ level
+-- Above level 0 so many cells kept stand for their number times p, divided by the region's size (RULES: Estimate). Their number times p:
+abbrev pub timesP : Settings → ℕ → ℕ
+timesP s count = count * s .p
+
+-- divided by the region's size, rounded down
+unfoldable pub standsAt : Settings → ℕ → ℕ → ℕ
+standsAt s level count = timesP s count / region s level
+
+-- divided by the region's size, as a float: one rounded division
+unfoldable pub floatAt : Settings → ℕ → ℕ → Float
+floatAt s level count = over (timesP s count) (region s level)
 
 abbrev pub standsFor : Sketch → ℕ
-standsFor k = standsAt (k .level) (k .count)
+standsFor k = standsAt (k .settings) (k .level) (k .count)
 
--- that number as a float
 abbrev pub floatFor : Sketch → Float
-floatFor k = ofInt binary64 (pos (standsFor k))
+floatFor k = floatAt (k .settings) (k .level) (k .count)
 
 -- at level 0 exactly the number of cells; above it about that float
 abbrev pub weightOf : Sketch → Weight
@@ -42,13 +50,13 @@ weightOf k = cond (eqb (k .level) 0) (exactly (k .count)) (about (floatFor k))
 unfoldable pub estimateOn : Sketch → Outcome Weight
 estimateOn k = unless (isSketch k) notOne (answered (weightOf k))
 
--- what is told is worth the number m: the whole number is m, or the float denotes m with nothing lost
-abbrev pub Worth : Outcome Weight → ℕ → Type 0
-Worth (answered (exactly v)) m = v ≡ m
-Worth (answered (about x)) m = HasValue x false m 1
-Worth (refused number place) m = Unit
+-- what is told is worth a / b: the whole number is that exactly, or the float lies near
+abbrev pub Worth : Outcome Weight → ℕ → ℕ → Type 0
+Worth (answered (exactly v)) a b = v * b ≡ a
+Worth (answered (about x)) a b = Near a b x
+Worth (refused number place) a b = Unit
 
 -- what the estimate promises
 pub record Estimates (k : Sketch) (r : Estimate) : Type 0 where
   pub answer : ofEstimate r ≡ estimateOn k
-  pub value : Worth (ofEstimate r) (standsFor k)
+  pub value : Worth (ofEstimate r) (timesP (k .settings) (k .count)) (region (k .settings) (k .level))

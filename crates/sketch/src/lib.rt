@@ -1,12 +1,12 @@
 // The sketch, by value: is it one, opening, adding, merging, the estimate.
 ghost use mathlib.Core.Path.{_≡_};
 ghost use mathlib.Core.Bool.{true};
-ghost use Prim.Native.Nat.{_≤_};
+ghost use Prim.Native.Nat.{_^_, _≤_};
 ghost use lib.ListN.{length};
 ghost use Rattle.find.specs.Finding.{inRange};
 ghost use Rattle.sketch.specs.Sketches.{held, isSketch, keptOf, Sound, opened, add, merge};
 ghost use Rattle.sketch.specs.Calls.{Hands, doneWith, refusedWith, noSketch, openOn, addOn, mergeOn};
-ghost use Rattle.sketch.specs.Estimates.{standsAt, Estimates};
+ghost use Rattle.sketch.specs.Estimates.{timesP, standsAt, floatAt, Estimates};
 use rule::Settings;
 use rule::answers::Answer;
 use rule::refusals::BAD_SETTINGS;
@@ -83,15 +83,32 @@ pub fn is_sketch(settings: Settings, level: u32, count: u32, cells: &[u32]) -> b
         & (settings.has_level(level) & (rows::rises(settings, level, &cells[..n]) & unused))
 }
 
-// How many cells so many kept at a level stand for: whoever tells the estimate asks here.
-pub fn stands_at(level: u32, count: u32) -> u64
-    requires { ⌜ level ≤ 31 ⌝ }
-    ensures { λ r. ⌜ r ≡ standsAt level count ⌝ }
+fn times_p(settings: Settings, count: u32) -> u64
+    ensures { λ r. ⌜ r ≡ timesP settings count ⌝ }
 {
-    (count as u64) << level
+    (count as u64) * (settings.p as u64)
 }
 
-// What a sketch stands for is below 2^53, so the float loses nothing.
+// How many cells so many kept at a level stand for, in whole numbers: whoever prints it asks here. A
+// level above the top has no region, and nothing is kept there.
+pub fn stands_at(settings: Settings, level: u32, count: u32) -> u64
+    ensures { λ r. ⌜ r ≡ standsAt settings level count ⌝ }
+{
+    let region = settings.region(level);
+    if region == 0 {
+        return 0;
+    }
+    times_p(settings, count) / (region as u64)
+}
+
+// The same as a float. What is kept, times p, is below 2^53, so that only the division rounds.
+fn float_at(settings: Settings, level: u32, count: u32) -> f64
+    requires { ⌜ timesP settings count ≤ 2 ^ 53 ⌝ }
+    ensures { λ r. ⌜ r ≡ floatAt settings level count ⌝ }
+{
+    floats::over(times_p(settings, count), settings.region(level) as u64)
+}
+
 pub fn estimate_of(settings: Settings, level: u32, count: u32, cells: &[u32]) -> Estimate
     requires { ⌜ length (now cells) ≡ 504 ⌝ }
     ensures { λ r. ⌜ Estimates (held settings level count (now (cells .entry))) r ⌝ }
@@ -102,7 +119,7 @@ pub fn estimate_of(settings: Settings, level: u32, count: u32, cells: &[u32]) ->
     if level == 0 {
         return Estimate::Exact(count);
     }
-    Estimate::About(stands_at(level, count) as f64)
+    Estimate::About(float_at(settings, level, count))
 }
 
 impl Sketch {

@@ -1,11 +1,10 @@
 -- `evening::answer_estimate` meets its contract. Assumes nothing.
-use Rattle.sketch.proofs.Worth.{level-small}
 use borrow.Author.Needs.{needs}
 use Rattle.evening.proofs.answer_estimate.Statement.{statement}
 use Rattle.evening.proofs.answer_estimate.Tie as tie
 
 tell-estimate-requires : tie.Need-tell-estimate-requires
-tell-estimate-requires c κs = let start = c .before .before in (λ o. level-small _ (start .pre .0 .sound o), start .pre .1)
+tell-estimate-requires c κs = search needs
 
 same-length : tie.Need-same-length
 same-length c = search needs

@@ -1,18 +1,15 @@
 -- `sketch::estimate_of` meets its contract. Assumes nothing.
-use Prim.Native.Nat.{ℕ}
-use mathlib.Core.Path.{_≡_, sym, ap, _∙_, subst}
+use mathlib.Core.Path.{_≡_, sym, ap, _∙_}
 use mathlib.Core.Bool.{true}
 use denote.Ref.{now}
-use lib.Dec.{T}
-use lib.IntN.{pos}
-use lib.Ieee.{binary64, inFloat, ofInt}
-use Rattle.rule.specs.Refusals.{Outcome, answered}
+use lib.Ieee.{Float}
+use Rattle.rule.specs.Refusals.{answered}
 use Rattle.find.proofs.Checks.{denied, granted}
 use Rattle.sketch.specs.declared.Sketch.{Sketch}
-use Rattle.sketch.specs.Estimates.{Weight, about}
+use Rattle.sketch.specs.Estimates.{about}
 use Rattle.sketch.specs.Sketches.{held, isSketch, Sound}
-use Rattle.sketch.proofs.Facts.{sketch-facts, count-few}
-use Rattle.sketch.proofs.Worth.{level-small, in-float, weighs-not, weighs-exact, weighs-about, estimate-worth}
+use Rattle.sketch.proofs.Facts.{sketch-facts}
+use Rattle.sketch.proofs.Worth.{few-enough, weighs-not, weighs-exact, weighs-about, estimate-worth}
 use borrow.Author.Needs.{needs}
 use Rattle.sketch.proofs.estimate_of.Statement.{statement}
 use Rattle.sketch.proofs.estimate_of.Tie as tie
@@ -41,22 +38,13 @@ returns-2 c =
     let k = asked (c .before .before .before) in
     estimate-worth k _ (sym (weighs-exact k (granted _ _ (c .before .before .is-sketch .ensures) (c .before .if1 .left)) (c .if2 .taken)))
 
-stands-at-requires : tie.Need-stands-at-requires
-stands-at-requires c κs = level-small _ (sound c)
-
-int-to-float-t8 : tie.Need-int-to-float-t8
-int-to-float-t8 c =
-    let k = asked (c .before .before .before .before .before) in
-    let w = sound (c .before .before) in
-    subst (λ (m : ℕ). T (inFloat binary64 (pos m))) (sym (c .before .stands-at .ensures)) (in-float (k .level) (k .count) (level-small k w) (count-few k w))
+float-at-requires : tie.Need-float-at-requires
+float-at-requires c κs = few-enough _ (sound c)
 
 returns-3 : tie.Need-returns-3
 returns-3 c =
-    let k = asked (c .before .before .before .before .before) in
-    let told : ℕ → Outcome Weight = λ m. answered (about (ofInt binary64 (pos m))) in
-    estimate-worth k _ (ap told (c .before .stands-at .ensures) ∙ sym (weighs-about k (is-one (c .before .before)) (c .before .before .if2 .left)))
+    let k = asked (c .before .before .before .before) in
+    estimate-worth k _ (ap (λ (x : Float). answered (about x)) (c .float-at .ensures) ∙ sym (weighs-about k (is-one (c .before)) (c .before .if2 .left)))
 
 pub estimate-of-spec : {M : Type 1} → statement M
-estimate-of-spec =
-    tie.close
-    (tie.spec is-sketch-requires returns returns-2 stands-at-requires int-to-float-t8 returns-3)
+estimate-of-spec = tie.close (tie.spec is-sketch-requires returns returns-2 float-at-requires returns-3)

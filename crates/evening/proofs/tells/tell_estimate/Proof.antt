@@ -22,7 +22,7 @@ returns c =
     let k = c .before .before in
     let a = k .before .before .before .before .args in
     let unopened = not-true (a .opened) (k .before .before .if1 .taken) in
-    stored-as (k .put-refusal .ensures) (told-unopened (a .opened) (answered []) (λ values. estimateText (a .level) (a .count)) unopened)
+    stored-as (k .put-refusal .ensures) (told-unopened (a .opened) (answered []) (λ values. estimateText (a .settings) (a .level) (a .count)) unopened)
 
 put-exact-requires : tie.Need-put-exact-requires
 put-exact-requires c κs = search needs
@@ -36,11 +36,11 @@ returns-2 c =
     let two = k .before .before in
     let a = two .before .before .before .args in
     let opened = not-false (a .opened) (two .before .if1 .left) in
-    let text = estimate-exact (a .level) (a .count) (two .if2 .taken) in
-    stored-as (k .put-exact .ensures) (text ∙ told-answered (a .opened) (answered []) (λ values. estimateText (a .level) (a .count)) opened [] refl)
+    let text = estimate-exact (a .settings) (a .level) (a .count) (two .if2 .taken) in
+    stored-as (k .put-exact .ensures) (text ∙ told-answered (a .opened) (answered []) (λ values. estimateText (a .settings) (a .level) (a .count)) opened [] refl)
 
 stands-at-requires : tie.Need-stands-at-requires
-stands-at-requires c κs = c .before .before .before .before .pre .0 (not-false _ (c .before .before .if1 .left))
+stands-at-requires c κs = search needs
 
 put-about-requires : tie.Need-put-about-requires
 put-about-requires c κs = search needs
@@ -54,8 +54,8 @@ returns-3 c =
     let two = k .before .before .before in
     let a = two .before .before .before .args in
     let opened = not-false (a .opened) (two .before .if1 .left) in
-    let text = ap textAbout (k .before .stands-at .ensures) ∙ estimate-about (a .level) (a .count) (two .if2 .left) in
-    stored-as (k .put-about .ensures) (text ∙ told-answered (a .opened) (answered []) (λ values. estimateText (a .level) (a .count)) opened [] refl)
+    let text = ap textAbout (k .before .stands-at .ensures) ∙ estimate-about (a .settings) (a .level) (a .count) (two .if2 .left) in
+    stored-as (k .put-about .ensures) (text ∙ told-answered (a .opened) (answered []) (λ values. estimateText (a .settings) (a .level) (a .count)) opened [] refl)
 
 pub tell-estimate-spec : {M : Type 1} → statement M
 tell-estimate-spec =
