@@ -145,7 +145,7 @@ struct pot_found {
 struct pot_estimated {
     uint32_t number;
     uint32_t exact; /* 1 where the value is exact, 0 where it is an estimate */
-    double value;
+    double value;   /* a whole number where it is exact; an estimate may have a fraction */
 };
 
 struct pot_written {
@@ -178,8 +178,12 @@ struct pot_placed pot_add_row(uint32_t sketch[POT_SKETCH], const struct pot_stre
  * Refused: POT_NOT_ONE for either, POT_UNEQUAL, in this order, and the sketch is unchanged. */
 uint32_t pot_merge(uint32_t sketch[POT_SKETCH], const uint32_t other[POT_SKETCH]);
 
-/* How many cells the sketch stands for: the number of cells kept times 2^level, a whole number that
- * the double holds with nothing lost. It is exact at level 0.
+/* How many cells the sketch stands for. At level 0 that is exact: the number of cells kept. Above it, it is
+ * an estimate: the number of cells kept times p, divided by the size of the level's region, which is
+ * p / 2^level rounded down. The value is one division of two doubles that hold these whole numbers with
+ * nothing lost, rounded to the nearest double: so it is off by at most one part in 2^53. Its whole part is
+ * the true quotient's, and is what potcount prints. At the top each cell kept stands for p; without cells it
+ * is 0.
  * Refused: POT_NOT_ONE. */
 struct pot_estimated pot_estimate(const uint32_t sketch[POT_SKETCH]);
 

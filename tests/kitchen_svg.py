@@ -37,10 +37,10 @@ def evening(lines):
     """Each step: who, what was done, the cells that came together, and after it the level, the cells kept, the estimate."""
     kept, steps, merged = {}, [], {}
     for told in lines:
-        m = re.fullmatch(r"(.+): level (\d+), cells((?: \d+)*), (.+)", told)
+        m = re.fullmatch(r"(.+): level (\d+), cells((?: \d+)*), (exactly|about) (?:.+ = )?(\d+)", told)
         if not m:
             continue
-        what, after = m[1], (int(m[2]), [int(c) for c in m[3].split()], m[4])
+        what, after = m[1], (int(m[2]), [int(c) for c in m[3].split()], f"{m[4]} {m[5]}")
         sees = re.fullmatch(r"(.+) sees (\d+)\.\.(\d+)", what)
         if sees:
             who = sees[1]

@@ -50,10 +50,10 @@ def main():
     loop = [line for line in lines("docs/KITCHEN.md") if line.startswith("    ") and "potcount" not in line][:6]
     assert "\n".join(loop) in (ROOT / "crates/plain/src/lib.rt").read_text(), "docs/KITCHEN.md: its loop is not that of crates/plain"
 
-    # a step: its level, the cells kept, and the estimate's kind and number
-    told = [re.fullmatch(r".+: level (\d+), cells(.*), (exactly|about) (\d+)", line) for line in paper]
-    steps = [(m[1], numbers(m[2]), m[3], int(m[4])) for m in told if m]
-    shown = [(row[2], numbers(row[3]), row[4].split()[0], numbers(row[4])[-1]) for row in tables if len(row) == 5 and row[2].isdigit()]
+    # a step: its level, the cells kept, and the estimate's kind and numbers, with the division that it comes from
+    told = [re.fullmatch(r".+: level (\d+), cells(.*), (exactly|about) (.+)", line) for line in paper]
+    steps = [(m[1], numbers(m[2]), m[3], numbers(m[4])) for m in told if m]
+    shown = [(row[2], numbers(row[3]), row[4].split()[0], numbers(row[4])) for row in tables if len(row) == 5 and row[2].isdigit()]
     assert shown == steps[: len(shown)] and len(shown) == 5, "docs/KITCHEN.md: its evening"
 
 

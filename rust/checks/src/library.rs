@@ -117,10 +117,15 @@ impl Version for Library {
     fn estimate(sketch: &Sketch) -> Result<Estimate, Refusal> {
         let answer = calls::estimate(&sketch.row());
         let (exact, value) = told(answer.number, (answer.exact, answer.value), (0, 0.0))?;
-        Ok(match exact {
-            1 => Estimate::Exact(value as u32),
-            _ => Estimate::About(value),
-        })
+        match exact {
+            0 => Ok(Estimate::About(value)),
+            1 => {
+                let cells = value as u32;
+                assert!(f64::from(cells) == value, "exactly {value}");
+                Ok(Estimate::Exact(cells))
+            }
+            _ => panic!("exact is {exact}"),
+        }
     }
 
     fn write(sketch: &Sketch, room: &mut [u8]) -> Result<usize, Refusal> {

@@ -46,7 +46,7 @@ fn samples<V: Version>() {
     assert_eq!(V::estimate(&none), Ok(Estimate::About(0.0)));
     let one = add_all(100);
     assert_eq!((one.level, one.count, one.cells[0]), (6, 1, 1));
-    assert_eq!(V::estimate(&one), Ok(Estimate::About(64.0)));
+    assert_eq!(V::estimate(&one), Ok(Estimate::About(101.0)));
 }
 
 /// Test 9.

@@ -20,11 +20,17 @@ pub struct Sketch {
 }
 
 /// How many cells a sketch stands for.
+///
+/// It shows as whole cells, rounded down, like what `potcount` prints: `4`, or
+/// `about 4`.
 #[derive(Clone, Copy, Debug, PartialEq)]
 pub enum Estimate {
     /// Just as many: the sketch is at level 0.
     Exact(u32),
-    /// About as many: the number of cells kept times 2^level, a whole number.
+    /// About as many: the number of cells kept times p, divided by the size of the
+    /// level's region, which is p / 2^level rounded down. The division is rounded
+    /// once, to the nearest float: it is off by at most one part in 2^53, and its
+    /// whole part is the true one.
     About(f64),
 }
 
@@ -114,7 +120,21 @@ impl Sketch {
         unless_refused(calls::merge(&mut self.row, &other.row), ())
     }
 
-    /// How many cells the sketch stands for.
+    /// How many cells the sketch stands for: exactly at level 0, and about as many
+    /// above it.
+    ///
+    /// ```
+    /// # use pot::{Estimate, Refusal, Settings, Sketch};
+    /// # let settings = Settings { n: 10, p: 101, a: 37, b: 5, capacity: 3 };
+    /// let mut sketch = Sketch::open(settings)?;
+    /// sketch.add(1..=2)?;
+    /// assert_eq!(sketch.estimate(), Estimate::Exact(2));
+    /// sketch.add(2..=4)?;
+    /// // Two cells at level 1, where the region has 50 of the 101 hashes: 202 / 50.
+    /// assert_eq!(sketch.estimate(), Estimate::About(4.04));
+    /// assert_eq!(sketch.estimate().to_string(), "about 4");
+    /// # Ok::<(), Refusal>(())
+    /// ```
     #[inline]
     pub fn estimate(&self) -> Estimate {
         let told = calls::estimate(&self.row);
@@ -251,7 +271,7 @@ impl fmt::Display for Estimate {
     fn fmt(&self, f: &mut fmt::Formatter) -> fmt::Result {
         match self {
             Estimate::Exact(cells) => write!(f, "{cells}"),
-            Estimate::About(cells) => write!(f, "about {cells}"),
+            Estimate::About(cells) => write!(f, "about {}", cells.trunc()),
         }
     }
 }

@@ -32,8 +32,11 @@ fn a_sketch_shows_its_parts() {
 fn estimates_say_which_kind_they_are() {
     let mut sketch = Sketch::open(Settings { capacity: 3, ..Q }).unwrap();
     sketch.add(1..=4).unwrap();
-    assert_eq!(sketch.estimate(), Estimate::About(4.0));
+    assert_eq!(sketch.estimate(), Estimate::About(4.04));
+    assert_eq!(sketch.estimate().value(), 4.04);
     assert_eq!(sketch.estimate().to_string(), "about 4");
+    let two_thirds = Estimate::About(84.66666666666667);
+    assert_eq!(two_thirds.to_string(), "about 84");
     assert_eq!(sketch_of(1..=4).estimate().to_string(), "4");
     assert_eq!(sketch_of(1..=4).estimate().value(), 4.0);
 }

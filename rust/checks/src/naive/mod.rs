@@ -2,11 +2,13 @@
 //! samples as sets, and tries one level after another. Slow and plain on
 //! purpose.
 
+mod fraction;
 mod image;
 mod potcount;
 mod settings;
 mod sketch;
 
+pub use fraction::Fraction;
 pub use image::{image, read, seal};
 pub use potcount::potcount;
 pub use settings::{
@@ -88,8 +90,8 @@ impl Version for Naive {
     fn estimate(sketch: &Sketch) -> Result<Estimate, Refusal> {
         let pot = Pot::of(sketch)?;
         Ok(match pot.level {
-            0 => Estimate::Exact(pot.estimate() as u32),
-            _ => Estimate::About(pot.estimate() as f64),
+            0 => Estimate::Exact(pot.cells.len() as u32),
+            _ => Estimate::About(pot.estimate().nearest_float()),
         })
     }
 

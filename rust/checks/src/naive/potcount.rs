@@ -84,7 +84,7 @@ fn answer_with(pot: &mut Pot, letter: &str, numbers: &[u32]) -> Result<String, R
                 None => "N none".to_string(),
             })
         }
-        _ if pot.level == 0 => Ok(format!("E exact {}", pot.estimate())),
-        _ => Ok(format!("E about {}", pot.estimate())),
+        _ if pot.level == 0 => Ok(format!("E exact {}", pot.cells.len())),
+        _ => Ok(format!("E about {}", pot.estimate().whole())),
     }
 }

@@ -1,6 +1,7 @@
 //! Sketches, with their samples as sets.
 
-use super::settings::{passes, settings_are_good, top};
+use super::fraction::Fraction;
+use super::settings::{passes, region, settings_are_good, top};
 use crate::shape::{demand, Refusal, Settings, Sketch, PLACES};
 use std::collections::BTreeSet;
 
@@ -82,9 +83,12 @@ impl Pot {
         Pot::sample(self.settings, self.level.max(other.level), &set)
     }
 
-    /// The number of cells times 2^level.
-    pub fn estimate(&self) -> u64 {
-        self.cells.len() as u64 * 2u64.pow(self.level)
+    /// The number of cells times p, over the size of the level's region.
+    pub fn estimate(&self) -> Fraction {
+        Fraction {
+            top: self.cells.len() as u128 * u128::from(self.settings.p),
+            bottom: region(&self.settings, self.level).into(),
+        }
     }
 
     /// The sketch in its shape of 511 numbers.

@@ -103,7 +103,10 @@ impl Potcount {
             }
             Request::Estimate => match sketch.estimate()? {
                 Estimate::Exact(cells) => Answer::Exact(u64::from(cells)),
-                Estimate::About(_) => Answer::About(sketch.scaled_count()),
+                Estimate::About(_) => {
+                    let (top, bottom) = sketch.fraction();
+                    Answer::About(top / bottom)
+                }
             },
             Request::Count { level, lo, hi } => Answer::Count(settings.range_count(level, lo, hi)?),
             Request::Find { level, from } => Answer::Found(settings.next_hit(level, from)?),

@@ -70,7 +70,8 @@ impl Sketch {
         Ok(if self.level == 0 {
             Estimate::Exact(self.count)
         } else {
-            Estimate::About(self.scaled_count() as f64)
+            let (top, bottom) = self.fraction();
+            Estimate::About(top as f64 / bottom as f64)
         })
     }
 
@@ -109,10 +110,12 @@ impl Sketch {
         self.settings.p >> self.level
     }
 
-    /// The number of cells times 2^level: at most 504 times 2^31, so a 64-bit
-    /// float holds it too with nothing lost.
-    pub(super) fn scaled_count(&self) -> u64 {
-        u64::from(self.count) << self.level
+    /// The estimate as a fraction, its top and its bottom: the number of cells times
+    /// p, and the region's size. Both are below 2^53, so 64-bit floats hold them with
+    /// nothing lost.
+    pub(super) fn fraction(&self) -> (u64, u64) {
+        let cells = u64::from(self.count);
+        (cells * u64::from(self.settings.p), self.region().into())
     }
 
     /// The kept cells below lo, in lo..hi, and above hi.
