@@ -118,7 +118,7 @@ fn answer_add(pot: Pot, lo: u32, hi: u32, out: &mut [u8], at: usize) -> Told
 
 // `E`, `C` and `N`: the pot stays.
 fn answer_estimate(pot: Pot, out: &mut [u8], at: usize) -> Told
-    requires { ⌜ Sits pot × Room (now out) at ⌝ }
+    requires { ⌜ Room (now out) at ⌝ }
     ensures { λ r. ⌜ Tells (now (out .entry)) at (estimateReply pot) (now (out .exit)) r ⌝ }
 {
     let next = tell_estimate(

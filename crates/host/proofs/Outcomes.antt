@@ -18,7 +18,6 @@ use Rattle.lists.proofs.Tests.{tested}
 use Rattle.lists.proofs.Steps.{part-rest}
 use Rattle.floats.specs.Quotients.{Near}
 use Rattle.rule.specs.declared.Settings.{Settings}
-use Rattle.rule.specs.Rule.{region}
 use Rattle.rule.specs.Cells.{_∪_, interval}
 use Rattle.rule.specs.Refusals.{Paper, answered, refused, ofAnswer}
 use Rattle.find.specs.declared.Started.{Started}
@@ -29,7 +28,7 @@ use Rattle.settle.specs.declared.Kept.{Kept}
 use Rattle.settle.specs.Settling.{Keeps, keptIn}
 use Rattle.sketch.specs.Sketches.{held, keptOf, isSketch, add, merge}
 use Rattle.sketch.specs.Calls.{Hands, handed, addWhen, addOn, mergeWhen, mergeOn}
-use Rattle.sketch.specs.Estimates.{timesP, floatFor, estimateOn}
+use Rattle.sketch.specs.Estimates.{upper, lower, floatFor, estimateOn}
 use Rattle.sketch.proofs.Facts.{sketch-facts}
 use Rattle.sketch.proofs.Handing.{add-told, merge-told, kept-add, kept-merge}
 use Rattle.sketch.proofs.Worth.{float-near, float-exact, region-zero, weighs-exact, weighs-about}
@@ -102,5 +101,5 @@ double-stands k e =
     (λ (z : eqb (k .level) 0 ≡ false). ap doubleOf (weighs-about k e (eqb-false (k .level) 0 z)))
     (tested (eqb (k .level) 0))
 
-pub double-worth : (k : Sketch) → isSketch k ≡ true → Near (timesP (k .settings) (k .count)) (region (k .settings) (k .level)) (doubleOf (estimateOn k))
+pub double-worth : (k : Sketch) → isSketch k ≡ true → Near (upper k) (lower k) (doubleOf (estimateOn k))
 double-worth k e = rw (double-stands k e) (float-near k (sketch-facts k e))

@@ -16,7 +16,7 @@ use Rattle.find.specs.Finding.{countOn}
 use Rattle.sketch.specs.declared.Sketch.{Sketch}
 use Rattle.sketch.specs.Sketches.{isSketch, cellsOf, opened, add}
 use Rattle.sketch.specs.Calls.{openOn, addOn}
-use Rattle.sketch.specs.Estimates.{about, timesP, estimateOn}
+use Rattle.sketch.specs.Estimates.{about, upper, lower, estimateOn}
 use Rattle.block.specs.Little.{bytesOf, numberAt}
 use Rattle.block.specs.Sums.{plainOf, weightedOf, sealed}
 use Rattle.layout.specs.Images.{bodyOf}
@@ -49,7 +49,7 @@ added s lo hi = add (opened s) lo hi
 
 -- the number of cells times p, divided by the region's size, is m
 abbrev pub divides : Sketch → ℕ → Bool
-divides k m = eqb (timesP (k .settings) (k .count)) (m * region (k .settings) (k .level))
+divides k m = eqb (upper k) (m * lower k)
 
 -- what a row says
 abbrev pub Says : Row → Type 0

@@ -22,7 +22,7 @@ use Rattle.sketch.specs.declared.Sketch.{Sketch}
 use Rattle.sketch.specs.declared.estimates.Estimate.{Estimate}
 use Rattle.sketch.specs.declared.estimates.Estimate.the-variants.{Exact, About}
 use Rattle.sketch.specs.Sketches.{isSketch}
-use Rattle.sketch.specs.Estimates.{ofEstimate, timesP, floatFor, Worth, Estimates}
+use Rattle.sketch.specs.Estimates.{ofEstimate, upper, lower, floatFor, Worth, Estimates}
 use Rattle.sketch.proofs.Facts.{sketch-facts}
 use Rattle.sketch.proofs.Worth.{few-enough, float-exact, region-zero, weighs-exact, weighs-about, estimate-one}
 
@@ -34,18 +34,18 @@ module _ (k : Sketch) (r : Estimate) (e : Estimates k r) (one : isSketch k ≡ t
   pub exact-zero : k .level ≡ 0 → r ≡ Exact (k .count)
   exact-zero z = estimate-one r (Exact (k .count)) (e .answer ∙ weighs-exact k one z)
 
-  pub about-near : (k .level ≡ 0 → ⊥) → (r ≡ About (floatFor k)) × Near (timesP (k .settings) (k .count)) (region (k .settings) (k .level)) (floatFor k)
+  pub about-near : (k .level ≡ 0 → ⊥) → (r ≡ About (floatFor k)) × Near (upper k) (lower k) (floatFor k)
   about-near z =
       let told = estimate-one r (About (floatFor k)) (e .answer ∙ weighs-about k one z) in
-      (told, subst (λ (x : Estimate). Worth (ofEstimate x) (timesP (k .settings) (k .count)) (region (k .settings) (k .level))) told (e .value))
+      (told, subst (λ (x : Estimate). Worth (ofEstimate x) (upper k) (lower k)) told (e .value))
 
   -- where the region's size divides
-  about-whole : (k .level ≡ 0 → ⊥) → (n : ℕ) → timesP (k .settings) (k .count) ≡ n * region (k .settings) (k .level) → n ≤ 2 ^ 53 → AboutWhole r n
+  about-whole : (k .level ≡ 0 → ⊥) → (n : ℕ) → upper k ≡ n * lower k → n ≤ 2 ^ 53 → AboutWhole r n
   about-whole z n d h = (about-near z .0 ∙ ap About (float-exact k (sketch-facts k one) n d), held n h)
 
   pub about-none : (k .level ≡ 0 → ⊥) → k .count ≡ 0 → AboutWhole r 0
   about-none z none =
-      about-whole z 0 (ap (λ (c : ℕ). c * k .settings .p) none ∙ zero-mul (k .settings .p) ∙ sym (zero-mul (region (k .settings) (k .level)))) (lit≤ tt)
+      about-whole z 0 (ap (λ (c : ℕ). c * k .settings .p) none ∙ zero-mul (k .settings .p) ∙ sym (zero-mul (lower k))) (lit≤ tt)
 
   pub about-top : k .level ≡ top (k .settings) → AboutWhole r (k .count * k .settings .p)
   about-top t =

@@ -32,7 +32,7 @@ use Rattle.sketch.specs.declared.Sketch.{Sketch}
 use Rattle.sketch.specs.declared.estimates.Estimate.{Estimate}
 use Rattle.sketch.specs.declared.estimates.Estimate.the-variants.{Exact, About, Refused}
 use Rattle.sketch.specs.Sketches.{isSketch, Sound}
-use Rattle.sketch.specs.Estimates.{exactly, about, ofEstimate, timesP, standsAt, floatAt, standsFor, floatFor, estimateOn, Worth, Estimates}
+use Rattle.sketch.specs.Estimates.{exactly, about, ofEstimate, standsAt, floatAt, upper, lower, standsFor, floatFor, estimateOn, Worth, Estimates}
 use Rattle.sketch.proofs.Facts.{sketch-facts, count-few}
 
 pub level-small : (k : Sketch) → Sound k → k .level ≤ 31
@@ -42,53 +42,47 @@ pub stands-none : (s : Settings) (level count : ℕ) → region s level ≡ 0 �
 unfolding standsAt
 stands-none s level count z = rw z (sym (div-zero _))
 
--- the fraction's two numbers
+-- the two numbers of the fraction
 module _ (k : Sketch) (w : Sound k) where
-  abbrev upper : ℕ
-  upper = timesP (k .settings) (k .count)
-
-  abbrev lower : ℕ
-  lower = region (k .settings) (k .level)
-
   p-small : k .settings .p ≤ 4000000000
   p-small = omega (arith, w .settings .p-high, w .settings .n-high)
 
-  room : upper < 2 ^ 53
+  room : upper k < 2 ^ 53
   room = lt-of-le-of-lt (mul-le-mul (count-few k w) p-small) (lit< tt)
 
-  pub few-enough : upper ≤ 2 ^ 53
+  pub few-enough : upper k ≤ 2 ^ 53
   few-enough = le-of-lt room
 
-  some : 0 < lower
+  some : 0 < lower k
   some =
       let s = k .settings in
-      leb-true 1 lower (level-within s (k .level) (positive s (w .settings)) (small s (w .settings)) ∙ le-leb _ _ (w .level))
+      leb-true 1 (lower k) (level-within s (k .level) (positive s (w .settings)) (small s (w .settings)) ∙ le-leb _ _ (w .level))
 
-  lower-within : lower ≤ k .settings .p
+  lower-within : lower k ≤ k .settings .p
   unfolding region
   lower-within = div-le-self (k .settings .p) (2 ^ k .level)
 
-  lower-small : lower ≤ 2 ^ 53
+  lower-small : lower k ≤ 2 ^ 53
   lower-small = le-trans lower-within (le-trans p-small (lit≤ tt))
 
-  none-or-more : (upper ≡ 0) ⊎ (lower ≤ upper)
+  none-or-more : (upper k ≡ 0) ⊎ (lower k ≤ upper k)
   none-or-more =
       ⊎-elim
       (λ (z : k .count ≡ 0). inl (ap (λ (n : ℕ). n * k .settings .p) z ∙ zero-mul (k .settings .p)))
       (λ (c : 0 < k .count). inr (le-trans lower-within (le-trans (le-of-eq (sym (one-mul (k .settings .p)))) (mul-le-mul-right (k .settings .p) c))))
       (eq-zero-or-pos (k .count))
 
-  pub float-near : Near upper lower (floatFor k)
+  pub float-near : Near (upper k) (lower k) (floatFor k)
   unfolding floatAt
-  float-near = over-near upper lower some room lower-small none-or-more
+  float-near = over-near (upper k) (lower k) some room lower-small none-or-more
 
   pub float-whole : toUnsigned 64 (floatFor k) ≡ standsFor k
   unfolding floatAt standsAt
-  float-whole = over-whole upper lower some room lower-small none-or-more
+  float-whole = over-whole (upper k) (lower k) some room lower-small none-or-more
 
-  pub float-exact : (q : ℕ) → upper ≡ q * lower → floatFor k ≡ float q
+  pub float-exact : (q : ℕ) → upper k ≡ q * lower k → floatFor k ≡ float q
   unfolding floatAt
-  float-exact q e = over-exact q upper lower some e few-enough lower-small
+  float-exact q e = over-exact q (upper k) (lower k) some e few-enough lower-small
 
 pub region-zero : (s : Settings) (level : ℕ) → level ≡ 0 → region s level ≡ s .p
 unfolding region
@@ -107,7 +101,7 @@ module _ (k : Sketch) where
   unfolding estimateOn
   weighs-about e z = rw (e, ne-eqb (k .level) 0 z)
 
-  worth-on : Worth (estimateOn k) (timesP (k .settings) (k .count)) (region (k .settings) (k .level))
+  worth-on : Worth (estimateOn k) (upper k) (lower k)
   worth-on =
       ⊎-elim
       (λ (e : isSketch k ≡ true).

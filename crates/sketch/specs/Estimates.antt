@@ -28,13 +28,20 @@ ofEstimate (Refused number) = refused number 0
 abbrev pub timesP : Settings → ℕ → ℕ
 timesP s count = count * s .p
 
--- divided by the region's size, rounded down
+-- divided by the region's size, rounded down; a level above the top has no region, and a quotient by 0 is 0
 unfoldable pub standsAt : Settings → ℕ → ℕ → ℕ
 standsAt s level count = timesP s count / region s level
 
 -- divided by the region's size, as a float: one rounded division
 unfoldable pub floatAt : Settings → ℕ → ℕ → Float
 floatAt s level count = over (timesP s count) (region s level)
+
+-- the same of a sketch: the two numbers of its fraction, and the fraction as a whole number and as a float
+abbrev pub upper : Sketch → ℕ
+upper k = timesP (k .settings) (k .count)
+
+abbrev pub lower : Sketch → ℕ
+lower k = region (k .settings) (k .level)
 
 abbrev pub standsFor : Sketch → ℕ
 standsFor k = standsAt (k .settings) (k .level) (k .count)
@@ -59,4 +66,4 @@ Worth (refused number place) a b = Unit
 -- what the estimate promises
 pub record Estimates (k : Sketch) (r : Estimate) : Type 0 where
   pub answer : ofEstimate r ≡ estimateOn k
-  pub value : Worth (ofEstimate r) (timesP (k .settings) (k .count)) (region (k .settings) (k .level))
+  pub value : Worth (ofEstimate r) (upper k) (lower k)
