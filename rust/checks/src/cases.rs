@@ -351,6 +351,23 @@ pub fn sketches_of_every_length() -> Vec<Sketch> {
     sketches
 }
 
+/// The weights of a block's words w1 to w254 in its two sums.
+pub const WEIGHTS: [fn(u32) -> u32; 2] = [|_| 1, |i| 255 - i];
+
+/// A block whose words, each times its weight, have this sum; its check isn't
+/// filled in. Expects a sum that words of 16 bits reach.
+pub fn block_of_sum(weight: fn(u32) -> u32, sum: u32) -> [u8; BLOCK_BYTES] {
+    let mut block = [0; BLOCK_BYTES];
+    let mut rest = sum;
+    for (place, i) in block.chunks_exact_mut(2).zip(1..=254) {
+        let word = (rest / weight(i)).min(65_535);
+        rest -= weight(i) * word;
+        place.copy_from_slice(&(word as u16).to_le_bytes());
+    }
+    assert_eq!(rest, 0, "{sum} is too much for a block");
+    block
+}
+
 /// One change to an image; its checks are left as they are.
 pub fn change_image(draw: &mut Draw, image: &mut Vec<u8>) {
     let byte = draw.bits() as u8;

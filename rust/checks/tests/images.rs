@@ -1,8 +1,10 @@
 //! Images: written and read, torn, damaged, and never an image.
 
-use checks::cases::{change_image, drawing, image_of, sketches_of_every_length};
+use checks::cases::{
+    block_of_sum, change_image, drawing, image_of, sketches_of_every_length, LARGEST, WEIGHTS,
+};
 use checks::naive;
-use checks::shape::{Refusal, BLOCK_BYTES, LARGEST_IMAGE};
+use checks::shape::{Refusal, Settings, BLOCK_BYTES, LARGEST_IMAGE};
 use checks::version::Version;
 
 checks::beside_naive!(
@@ -10,6 +12,8 @@ checks::beside_naive!(
     writer_keeps_to_its_room,
     torn_images,
     changed_bytes_are_seen_in_their_block,
+    sums_where_the_remainder_turns,
+    sums_that_leave_0,
     changed_and_sealed_images,
     noise,
 );
@@ -85,6 +89,54 @@ fn every_value_of_every_byte<V: Version>() {
                 image[place] ^= change;
             }
         }
+    }
+}
+
+/// Blocks in which a sum is a multiple of 65535 or of 65536, or near one: with the
+/// right check, and with either check word one less or one more, so that 65535 is
+/// stored where 0 or 65534 is right.
+fn sums_where_the_remainder_turns<V: Version>() {
+    for weight in WEIGHTS {
+        let most = 65_535 * (1..=254).map(weight).sum::<u32>();
+        // Some 250 multiples of each, and the greatest sum.
+        let between = (most / 65_535).div_ceil(254);
+        for factor in [65_535, 65_536] {
+            let multiples = (1..=most / factor).step_by(between as usize);
+            let near = multiples.flat_map(|times| times * factor - 2..=times * factor + 2);
+            let ends = [0, 1, 2, most - 1, most];
+            for sum in near.chain(ends).filter(|&sum| sum <= most) {
+                reads_one_check_only::<V>(block_of_sum(weight, sum));
+            }
+        }
+    }
+}
+
+/// Of a block that is no image: its own check is right, and those beside it wrong.
+fn reads_one_check_only<V: Version>(mut block: [u8; BLOCK_BYTES]) {
+    naive::seal(&mut block);
+    assert_eq!(V::read(&block).err(), Some(Refusal::IMAGE));
+    for place in [508, 510] {
+        let right = u16::from_le_bytes([block[place], block[place + 1]]);
+        for stored in [right.wrapping_sub(1), right.wrapping_add(1)] {
+            let mut wrong = block;
+            wrong[place..place + 2].copy_from_slice(&stored.to_le_bytes());
+            assert_eq!(V::read(&wrong).err(), Some(Refusal::check_of(0)));
+        }
+    }
+}
+
+/// Images written for b 0, 1, .. up to the first in which a check word of block 0
+/// is 0, for each of the two. A stored 65535 is wrong there too.
+fn sums_that_leave_0<V: Version>() {
+    for place in [508, 510] {
+        let (sketch, mut image) = (0..LARGEST.p)
+            .map(|b| V::open(&Settings { b, ..LARGEST }).unwrap())
+            .map(|sketch| (sketch, image_of::<V>(&sketch)))
+            .find(|(_, image)| image[place..place + 2] == [0, 0])
+            .expect("such a b");
+        assert!(V::read(&image) == Ok(sketch));
+        image[place..place + 2].fill(0xFF);
+        assert_eq!(V::read(&image).err(), Some(Refusal::check_of(0)));
     }
 }
 

@@ -8,7 +8,7 @@ use crate::timing::{cells_shown, with_commas, Line};
 use checks::cases::LARGEST;
 use checks::draw::Draw;
 use checks::naive::{self, Pot};
-use checks::shape::{Sketch, Walker, LARGEST_IMAGE, LARGEST_N};
+use checks::shape::{Sketch, Walker, BLOCK_BYTES, LARGEST_IMAGE, LARGEST_N};
 use std::hint::black_box;
 
 pub const ARGUMENTS: usize = 500;
@@ -192,6 +192,27 @@ fn time_merge(name: &str, ones: &[BothSketches], twos: &[BothSketches]) {
         |((one, _), (two, _))| one.merge(two),
     )
     .print();
+}
+
+/// The check of a block by itself: how much longer a read takes that ends at the
+/// check of its fifth block than one that ends at its first, for each block more.
+pub fn time_checks() {
+    let mut image = [0; LARGEST_IMAGE];
+    let written = largest_sample().write(&mut image);
+    assert_eq!(written, Ok(LARGEST_IMAGE));
+    let [five, one] = [LARGEST_IMAGE, BLOCK_BYTES].map(|length| {
+        let mut image = image[..length].to_vec();
+        image[length - 1] ^= 1;
+        let images = vec![image; ARGUMENTS];
+        Line::time(
+            "check of a block".to_string(),
+            &images,
+            |image| pot::Sketch::try_from(&image[..]),
+            |image| Sketch::read(image),
+        )
+    });
+    five.each_beyond(&one, LARGEST_IMAGE / BLOCK_BYTES - 1)
+        .print();
 }
 
 pub fn time_images() {

@@ -12,7 +12,8 @@ mod potcount;
 mod timing;
 
 use calls::{
-    time_adds, time_counts, time_images, time_merges, time_next_hits, time_rows, time_walkers,
+    time_adds, time_checks, time_counts, time_images, time_merges, time_next_hits, time_rows,
+    time_walkers,
 };
 use checks::draw::Draw;
 use plain::time_plain;
@@ -45,6 +46,8 @@ numbers that a read fills is cleared before each call, and that is timed too. Th
 room for images is cleared once, before the first round, and not between calls.
 Images to read were written before. Library and peer allocate nothing in a timed
 call.
+Check of a block: a read refused at its fifth block takes as long as one refused at
+its first, and four checks more; the line has a quarter of the difference.
 ";
 
 fn main() -> io::Result<()> {
@@ -58,6 +61,7 @@ fn main() -> io::Result<()> {
     time_rows(&mut draw);
     time_merges(&mut draw);
     time_images();
+    time_checks();
     time_plain(&mut draw);
     match env::args_os().nth(1) {
         Some(program) => time_potcount(&mut draw, Command::new(program)),

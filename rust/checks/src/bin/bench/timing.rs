@@ -67,6 +67,15 @@ impl Line {
         }
     }
 
+    /// What each of so many steps takes, which this line has beyond the other.
+    pub fn each_beyond(self, other: &Line, steps: usize) -> Line {
+        Line {
+            library: (self.library - other.library) / steps as f64,
+            peer: (self.peer - other.peer) / steps as f64,
+            ..self
+        }
+    }
+
     /// Times testing each of so many cells, over as many of the arguments as
     /// there is time for.
     pub fn beside_each_cell<T, R>(
