@@ -1,4 +1,6 @@
 // A block of 512 bytes: 254 words of 16 bits, and two words that check them.
+#![tactic(auto)]
+
 ghost use Rattle.std.specs.Prelude.{◌≡◌, ◌++◌, ◌+◌, ◌%◌, ◌<◌, ◌≤◌, length, take, drop};
 ghost use Rattle.block.specs.Little.{Bytes, bytes_of, number_at};
 ghost use Rattle.block.specs.Sums.{Falls, plain_of, weighted_of, block_good, sealed};
@@ -14,7 +16,7 @@ pub const PLAIN: usize = 508;
 const WEIGHTED: usize = 510;
 
 // The two sums, each below 65535.
-#[derive(Drop)]
+#[derive(Clone, Copy)]
 pub struct Sums {
     pub plain: u32,
     pub weighted: u32,

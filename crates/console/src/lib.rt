@@ -6,6 +6,7 @@
 //
 // A proved loop has to end, and nothing says that the input or the signals do. So such a loop counts
 // its turns down, from a number that no run uses up.
+#![tactic(auto)]
 ghost use Rattle.std.specs.Prelude.{◌≡◌, ◌≤◌, length};
 ghost use Rattle.evening.specs.Runs.{Sitting};
 ghost use Rattle.console.specs.Serving.{served};
@@ -14,7 +15,7 @@ use evening::Evening;
 use libc::{STDIN_FILENO, STDOUT_FILENO};
 
 // The evening after a turn, and whether the run goes on.
-#[derive(Drop)]
+#[derive(Clone, Copy)]
 struct Turn {
     evening: Evening,
     more: bool,

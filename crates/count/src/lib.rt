@@ -1,6 +1,8 @@
 // The range count of Pavan and Tirthapura: how many of the first n elements of an arithmetic
 // progression with difference d, taken modulo m, lie below l. Each call is on modulus d with a
 // difference of at most half of d, so there are no more calls than d has bits.
+#![tactic(auto)]
+
 ghost use Rattle.std.specs.Prelude.{◌≡◌, ℕ, ◌+◌, ◌-◌, ◌*◌, ◌/◌, ◌%◌, ◌<◌, ◌≤◌, min};
 ghost use Rattle.count.specs.Hits.{hit, hits_up, hits_down, Takes};
 ghost use Rattle.count.specs.Cuts.{Cut};
@@ -9,7 +11,7 @@ ghost use Rattle.count.specs.Cuts.{Cut};
 // round's foot is its first element, which is less than d; the first round's foot may lie before the
 // progression's start. From round to round the feet go down by m % d or, modulo d, up by the rest of
 // d: the smaller job counts those of the whole rounds that lie below `bound`.
-#[derive(Drop)]
+#[derive(Clone, Copy)]
 struct Rounds {
     // the first foot
     foot: u64,

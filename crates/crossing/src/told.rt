@@ -9,7 +9,7 @@ use rule::answers::{Answer, Counted, Found, RowAnswer, Taken, Written};
 use sketch::estimates::Estimate;
 
 #[repr(C)]
-#[derive(Drop)]
+#[derive(Clone, Copy)]
 pub struct ToldValue {
     pub number: u32,
     pub value: u32,
@@ -17,14 +17,14 @@ pub struct ToldValue {
 
 // No cell is 0, so 0 says that there is none.
 #[repr(C)]
-#[derive(Drop)]
+#[derive(Clone, Copy)]
 pub struct ToldCell {
     pub number: u32,
     pub cell: u32,
 }
 
 #[repr(C)]
-#[derive(Drop)]
+#[derive(Clone, Copy)]
 pub struct ToldLength {
     pub number: u32,
     pub length: usize,
@@ -32,7 +32,7 @@ pub struct ToldLength {
 
 // The block is the one that refusal 7 names.
 #[repr(C)]
-#[derive(Drop)]
+#[derive(Clone, Copy)]
 pub struct ToldBlock {
     pub number: u32,
     pub block: u32,
@@ -40,7 +40,7 @@ pub struct ToldBlock {
 
 // The place is that of the first bad stretch, which a row's 2 names.
 #[repr(C)]
-#[derive(Drop)]
+#[derive(Clone, Copy)]
 pub struct ToldPlace {
     pub number: u32,
     pub place: usize,
@@ -48,7 +48,7 @@ pub struct ToldPlace {
 
 // `exact` is 1 where the value is exact, and otherwise 0.
 #[repr(C)]
-#[derive(Drop)]
+#[derive(Clone, Copy)]
 pub struct ToldDouble {
     pub number: u32,
     pub exact: u32,

@@ -11,19 +11,19 @@ use rule::Settings;
 use rule::answers::{Counted, Found};
 use sketch::{Changed, Sketch};
 
-#[derive(Drop)]
+#[derive(Clone, Copy)]
 pub struct TwoCounts {
     pub first: Counted,
     pub plain: Counted,
 }
 
-#[derive(Drop)]
+#[derive(Clone, Copy)]
 pub struct TwoHits {
     pub first: Found,
     pub plain: Found,
 }
 
-#[derive(Drop)]
+#[derive(Clone, Copy)]
 pub struct TwoSketches {
     pub first: Changed,
     pub plain: Changed,

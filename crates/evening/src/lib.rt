@@ -1,4 +1,5 @@
 // An evening of potcount on bytes: each line is answered with a line, and the open sketch is kept from one to the next.
+#![tactic(auto)]
 ghost use Rattle.std.specs.Prelude.{◌≡◌};
 ghost use Rattle.lists.specs.Rows.{Stored};
 ghost use Rattle.evening.specs.Replies.{Sits, Room, Tells, refusal, kept, open_reply, add_reply, estimate_reply, count_reply, next_reply};
@@ -21,14 +22,14 @@ const LINE: usize = line::LONGEST + 1;
 const ROOM: usize = 40;
 
 // The open sketch; all zeros where none has been opened yet.
-#[derive(Drop)]
+#[derive(Clone, Copy)]
 pub struct Pot {
     pub opened: bool,
     pub sketch: Sketch,
 }
 
 // The pot after a line, and the place after its answer.
-#[derive(Drop)]
+#[derive(Clone, Copy)]
 pub struct Told {
     pub pot: Pot,
     pub next: usize,
@@ -36,7 +37,7 @@ pub struct Told {
 
 // The pot, and the line so far: its first bytes. The places after them hold what is left of earlier
 // lines.
-#[derive(Drop)]
+#[derive(Clone, Copy)]
 pub struct Evening {
     pub pot: Pot,
     pub length: usize,
@@ -44,7 +45,7 @@ pub struct Evening {
 }
 
 // The evening after a piece of the input, how many of its bytes were taken, and how many were written.
-#[derive(Drop)]
+#[derive(Clone, Copy)]
 pub struct Fed {
     pub evening: Evening,
     pub taken: usize,

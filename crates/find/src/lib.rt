@@ -1,4 +1,5 @@
 // Counting and finding the passing cells of a range, without a walk over its cells.
+#![tactic(auto)]
 ghost use Rattle.std.specs.Prelude.{◌≡◌, ◌^◌, ◌<◌, ◌≤◌};
 ghost use Rattle.rule.specs.Rule.{Good};
 ghost use Rattle.rule.specs.Samples.{range_count, next_hit};
@@ -30,7 +31,7 @@ pub fn is_cell(settings: Settings, x: u32) -> bool
 }
 
 // The hashes of lo..hi: a progression modulo p, with the difference a. Those below `size` pass.
-#[derive(Drop)]
+#[derive(Clone, Copy)]
 struct Hashes {
     p: u64,
     a: u64,
@@ -126,7 +127,7 @@ pub fn next_hit(settings: Settings, level: u32, from: u32) -> Found
 }
 
 // A walker over the passing cells up to hi, from its position on.
-#[derive(Drop)]
+#[derive(Clone, Copy)]
 pub struct Walker {
     pub settings: Settings,
     pub level: u32,
@@ -134,13 +135,13 @@ pub struct Walker {
     pub hi: u32,
 }
 
-#[derive(Drop)]
+#[derive(Clone, Copy)]
 pub struct Started {
     pub answer: Answer,
     pub walker: Walker,
 }
 
-#[derive(Drop)]
+#[derive(Clone, Copy)]
 pub struct Stepped {
     pub found: Found,
     pub walker: Walker,

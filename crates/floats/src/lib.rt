@@ -1,4 +1,6 @@
 // Quotients of whole numbers as 64-bit floats.
+#![tactic(auto)]
+
 ghost use Rattle.std.specs.Prelude.{◌≡◌, ◌^◌, ◌≤◌};
 ghost use Rattle.floats.specs.Quotients.{over};
 

@@ -1,6 +1,7 @@
 // The boundary for C and Rust: numbers, lent numbers and lent bytes, and nothing else. Settings
 // cross as 5 numbers, a walker as 8, a sketch as 511, each of 32 bits. Every call takes whatever
 // stands there: a forged row is answered by the library's own tests, and no call asks anything.
+#![tactic(auto)]
 ghost use Rattle.std.specs.Prelude.{◌≡◌, length};
 ghost use Rattle.find.specs.Finding.{count_on, next_on};
 ghost use Rattle.sketch.specs.Estimates.{of_estimate, estimate_on};

@@ -15,7 +15,7 @@ use rule::Settings;
 use settle::add_to;
 
 // Whether the numbers lent are a sketch's, and its settings.
-#[derive(Drop)]
+#[derive(Clone, Copy)]
 pub struct Asked {
     pub known: bool,
     pub settings: Settings,

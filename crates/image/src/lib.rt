@@ -1,4 +1,5 @@
 // The image of a sketch: writing it into lent room, and reading it back.
+#![tactic(auto)]
 ghost use Rattle.std.specs.Prelude.{◌≡◌, length};
 ghost use Rattle.sketch.specs.Sketches.{held};
 ghost use Rattle.image.specs.Calls.{Writes, Reads, loaded_with};
@@ -13,14 +14,14 @@ use sketch::{PLACES, Sketch};
 mod reader;
 
 // What the reader answers, and the sketch handed back beside it.
-#[derive(Drop)]
+#[derive(Clone, Copy)]
 pub struct Loaded {
     pub taken: Taken,
     pub sketch: Sketch,
 }
 
 // The same but the cells, which go into a row that the caller lends.
-#[derive(Drop)]
+#[derive(Clone, Copy)]
 pub struct Header {
     pub taken: Taken,
     pub settings: Settings,

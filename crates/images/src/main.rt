@@ -1,5 +1,6 @@
 // Prints one image of each length, 512 to 2,560 bytes, and one of a sample above level 0, as hex. What it must print was worked
 // out by tests/images.py, which shares nothing with the library.
+#![tactic(auto)]
 use rule::answers::Written;
 
 const OUT: i32 = 1;

@@ -1,5 +1,6 @@
 // The kitchen tests that are not marked (RULES: Kitchen tests): run here, and compared with the stored output. The marked ones are
 // proved, in specs/Table.antt and proofs/Tests.antt.
+#![tactic(auto)]
 use find::{Started, Walker, count};
 use rule::Settings;
 use rule::answers::{Answer, Counted, Found, Written};

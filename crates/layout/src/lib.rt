@@ -1,4 +1,5 @@
 // The layout of an image, for the writer and the reader.
+#![tactic(auto)]
 ghost use Rattle.std.specs.Prelude.{◌≡◌, ◌<◌, min};
 ghost use Rattle.layout.specs.Images.{blocks_for};
 

@@ -4,6 +4,7 @@
 // struct, so each function that takes a `&mut Walker`, or lends one, is proved by a walk of its code
 // by hand. That is why there are only two and why each is thin: `next` copies the walker out, makes
 // a step by value and stores what changed; `moved_on` is for callers that have no such walk.
+#![tactic(auto)]
 ghost use Rattle.find.specs.Walking.{Steps};
 ghost use Rattle.lent.specs.Lending.{Lends};
 

@@ -1,7 +1,7 @@
 // What a line asks for, and the steps of reading it.
 
 // A line of one of the five shapes, with its numbers; any other line is unknown.
-#[derive(Drop)]
+#[derive(Clone, Copy)]
 pub enum Command {
     Settings {
         n: u32,
@@ -28,14 +28,14 @@ pub enum Command {
 }
 
 // A word read as a number, and the place after the word.
-#[derive(Drop)]
+#[derive(Clone, Copy)]
 pub enum Number {
     Value { x: u32, next: usize },
     Bad,
 }
 
 // The numbers of a line, at most five, with zeros after them. A count of six stands for more, and for a word that is no number.
-#[derive(Drop)]
+#[derive(Clone, Copy)]
 pub struct Numbers {
     pub count: usize,
     pub values: [u32; 5],

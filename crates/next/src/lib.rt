@@ -1,12 +1,14 @@
 // The next hit of Xu: the first element of an arithmetic progression that lies below l, taken by the
 // modulus p, in as many calls as Euclid's algorithm has steps. Round k has the elements from k * p to
 // (k + 1) * p, before the modulus is taken.
+#![tactic(auto)]
+
 ghost use Rattle.std.specs.Prelude.{◌≡◌, ◌/◌, ◌%◌, ◌<◌, ◌≤◌};
 ghost use Rattle.next.specs.Hit.{Finds, Progression};
 ghost use Rattle.next.specs.Rounds.{Searched, Least};
 
 // The index of the least hit, or that there is none.
-#[derive(Drop)]
+#[derive(Clone, Copy)]
 pub enum Index {
     At(u64),
     Nothing,

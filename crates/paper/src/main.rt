@@ -1,6 +1,7 @@
 // A small kitchen on paper: each cell with its hash and the highest level at which it passes, a count by the plain engine, cell by
 // cell, and then a short evening on two handhelds, step by step, so that a person with a pencil can follow. docs/KITCHEN.md walks
 // through what this prints.
+#![tactic(auto)]
 use rule::Settings;
 use rule::answers::Counted;
 use sketch::Sketch;

@@ -1,4 +1,5 @@
 // Answers each line of standard input with a line on standard output.
+#![tactic(auto)]
 fn main() {
     console::serve();
 }

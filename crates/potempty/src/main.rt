@@ -1,4 +1,5 @@
 // The program on an empty input: no line, so no answer. There is no stdout file, so nothing may be written.
+#![tactic(auto)]
 fn main() {
     console::serve();
 }

@@ -1,4 +1,5 @@
 // Writes images and reads them back, then reads torn and damaged ones. Each line says what was answered.
+#![tactic(auto)]
 use rule::answers::Written;
 use sketch::Sketch;
 

@@ -3,6 +3,7 @@
 // The borrow checker's own proofs don't follow a slice of structs, so each function that takes one
 // is proved by a walk of its code by hand. That is why they are few and thin: what they call takes
 // and hands back values.
+#![tactic(auto)]
 ghost use Rattle.std.specs.Prelude.{◌≡◌, [], ◌∷◌};
 ghost use Rattle.row.specs.Stretches.{within, first_bad, add_all, judged_at, row_when, row_on, AddsAll, row_changed, HandsRow};
 ghost use Rattle.rule.specs.Refusals.{is_answered, of_row};
@@ -14,14 +15,14 @@ use sketch::Sketch;
 
 // The cells lo..hi.
 #[repr(C)]
-#[derive(Drop)]
+#[derive(Clone, Copy)]
 pub struct Stretch {
     pub lo: u32,
     pub hi: u32,
 }
 
 // The answer, and the sketch handed back beside it.
-#[derive(Drop)]
+#[derive(Clone, Copy)]
 pub struct RowChanged {
     pub answer: RowAnswer,
     pub sketch: Sketch,

@@ -1,21 +1,21 @@
 // What the calls answer. specs/Refusals.antt gives each case's number and values (RULES: Refusals).
 
 // Opening, adding, merging.
-#[derive(Drop)]
+#[derive(Clone, Copy)]
 pub enum Answer {
     Done,
     Refused(u32),
 }
 
 // The range count.
-#[derive(Drop)]
+#[derive(Clone, Copy)]
 pub enum Counted {
     Count(u32),
     Refused(u32),
 }
 
 // The next hit, and a step of the walker.
-#[derive(Drop)]
+#[derive(Clone, Copy)]
 pub enum Found {
     Cell(u32),
     Nothing,
@@ -23,21 +23,21 @@ pub enum Found {
 }
 
 // The image writer: the image's length.
-#[derive(Drop)]
+#[derive(Clone, Copy)]
 pub enum Written {
     Length(usize),
     Refused(u32),
 }
 
 // The image reader: 7 carries a place, which is its block; it is zero elsewhere.
-#[derive(Drop)]
+#[derive(Clone, Copy)]
 pub enum Taken {
     Done,
     Refused { number: u32, place: u32 },
 }
 
 // A row of stretches: 2 carries a place, which is that of the first bad stretch; it is zero elsewhere.
-#[derive(Drop)]
+#[derive(Clone, Copy)]
 pub enum RowAnswer {
     Done,
     Refused { number: u32, place: usize },

@@ -1,4 +1,6 @@
 // The rule of a sketch: its settings, the hash, the regions of the levels, and which cells pass.
+#![tactic(auto)]
+
 ghost use Rattle.std.specs.Prelude.{◌≡◌, ℕ, ◌+◌, ◌-◌, ◌^◌, ◌%◌, ◌<◌, ◌≤◌, min, leb};
 ghost use Rattle.rule.specs.Rule.{no_settings, Good, common_divisor, is_good, hash, Ready, hasher_of, region, passes, top};
 
@@ -14,7 +16,7 @@ pub const GREATEST_CAPACITY: u32 = 504;
 // A rounded fraction has 32 binary places.
 const ONE: u64 = 4294967296;
 
-#[derive(Drop)]
+#[derive(Clone, Copy)]
 pub struct Settings {
     pub n: u32,
     pub p: u32,
@@ -25,7 +27,7 @@ pub struct Settings {
 
 // The settings with a / p and b / p in parts of 2^32, rounded down: with these two at hand a hash is
 // found by products and shifts, without a division.
-#[derive(Drop)]
+#[derive(Clone, Copy)]
 pub struct Hasher {
     pub settings: Settings,
     pub slope: u32,

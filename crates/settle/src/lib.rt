@@ -1,5 +1,6 @@
 // What adding and merging come down to: cells kept at a level, and a range. No sketch is known here:
 // the cells are lent. Adding works on their row; what a merge keeps goes into a row lent as well.
+#![tactic(auto)]
 ghost use Rattle.std.specs.Prelude.{◌≡◌, ◌+◌, ◌-◌, ◌≤◌, max, length, take, replicate, true};
 ghost use Rattle.lists.specs.Lists.{listed, filter};
 ghost use Rattle.lists.specs.Rows.{Stored};
@@ -18,7 +19,7 @@ use rule::Settings;
 pub const PLACES: usize = rule::GREATEST_CAPACITY as usize;
 
 // A level, and how many cells are kept at it: they stand in the first places of a row.
-#[derive(Drop)]
+#[derive(Clone, Copy)]
 pub struct Kept {
     pub level: u32,
     pub count: u32,

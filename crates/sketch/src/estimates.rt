@@ -1,5 +1,5 @@
 // What the estimate answers: exact at level 0, about above it.
-#[derive(Drop)]
+#[derive(Clone, Copy)]
 pub enum Estimate {
     Exact(u32),
     About(f64),

@@ -1,4 +1,5 @@
 // The sketch, by value: is it one, opening, adding, merging, the estimate.
+#![tactic(auto)]
 ghost use Rattle.std.specs.Prelude.{◌≡◌, true, ◌^◌, ◌≤◌, length};
 ghost use Rattle.find.specs.Finding.{in_range};
 ghost use Rattle.sketch.specs.Sketches.{held, is_sketch, kept_of, Sound, opened, add, merge};
@@ -19,7 +20,7 @@ use settle::Kept;
 pub const PLACES: usize = settle::PLACES;
 
 // A level, and the cells kept at it: the first `count` places, rising, with zeros after them.
-#[derive(Drop)]
+#[derive(Clone, Copy)]
 pub struct Sketch {
     pub settings: Settings,
     pub level: u32,
@@ -28,7 +29,7 @@ pub struct Sketch {
 }
 
 // The answer, and the sketch handed back beside it.
-#[derive(Drop)]
+#[derive(Clone, Copy)]
 pub struct Changed {
     pub answer: Answer,
     pub sketch: Sketch,

@@ -1,4 +1,5 @@
 // The distances from a hit to the next: of the passing cells of a range only the first is searched for.
+#![tactic(auto)]
 ghost use Rattle.std.specs.Prelude.{◌≡◌, ◌^◌, ◌<◌, ◌≤◌};
 ghost use Rattle.rule.specs.Rule.{Good};
 ghost use Rattle.strides.specs.Striding.{Shortest, Striding, IsHit, Next};
@@ -12,7 +13,7 @@ fn wide(x: u32) -> u64
 }
 
 // A distance between cells, and by how much it changes the hash.
-#[derive(Drop)]
+#[derive(Clone, Copy)]
 pub struct Stride {
     pub distance: u32,
     pub change: u32,
@@ -44,7 +45,7 @@ impl Stride {
 }
 
 // A passing cell, with its hash.
-#[derive(Drop)]
+#[derive(Clone, Copy)]
 pub struct Hit {
     pub cell: u32,
     pub hash: u32,
@@ -52,7 +53,7 @@ pub struct Hit {
 
 // The size of a level's region, with the least distance that raises the hash of a hit by less than
 // it, and the least that lowers the hash so.
-#[derive(Drop)]
+#[derive(Clone, Copy)]
 pub struct Strides {
     pub size: u32,
     pub up: Stride,
