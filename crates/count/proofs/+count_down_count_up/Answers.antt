@@ -57,7 +57,7 @@ pub count_down-count_up-requires : goal.count_down-count_up-requires
 count_down-count_up-requires t c = smaller (count_down_reached t c.before.before.before) t (omega arith)
 
 pub count_down-overflow_add-result : goal.count_down-overflow_add-result
-count_down-overflow_add-result t c = omega (arith, count_down_adds t c.before)
+count_down-overflow_add-result t c = omega (arith, count_down_adds t c.before.before.before)
 
 pub count_down-overflow_sub-result : goal.count_down-overflow_sub-result
 count_down-overflow_sub-result t c = omega (arith, count_down_adds t c.before.before.before)
@@ -117,7 +117,7 @@ pub count_up-count_up-requires : goal.count_up-count_up-requires
 count_up-count_up-requires t c = smaller (count_up_reached t c.before.before.before) t (omega arith)
 
 pub count_up-overflow_add-result : goal.count_up-overflow_add-result
-count_up-overflow_add-result t c = omega (arith, count_up_adds t c.before)
+count_up-overflow_add-result t c = omega (arith, count_up_adds t c.before.before.before)
 
 pub count_up-overflow_sub-result : goal.count_up-overflow_sub-result
 count_up-overflow_sub-result t c = omega (arith, count_up_adds t c.before.before.before)
