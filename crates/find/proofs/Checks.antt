@@ -21,11 +21,11 @@ use Rattle.rule.proofs.Facts.{good_facts}
 use Rattle.find.specs.Finding.{is_cell, in_range, on_settings, Refuses, Within}
 
 -- t is the call's answer, and d what it is promised to be
-pub denied : (t d : Bool) → t ≡ d → not t ≡ true → d ≡ false
-denied t d e n = sym e ∙ not-true t n
+pub denied : (t d : Bool) → t ≡ d → t ≡ false → d ≡ false
+denied t d e n = sym e ∙ n
 
-pub granted : (t d : Bool) → t ≡ d → not t ≡ false → d ≡ true
-granted t d e n = sym e ∙ not-false t n
+pub granted : (t d : Bool) → t ≡ d → t ≡ true → d ≡ true
+granted t d e n = sym e ∙ n
 
 pub and_parts : (t u : Bool) → (t && u) ≡ true → (t ≡ true) × (u ≡ true)
 and_parts true u e = (refl, e)

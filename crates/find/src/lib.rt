@@ -1,5 +1,6 @@
 // Counting and finding the passing cells of a range, without a walk over its cells.
 #![tactic(auto)]
+
 ghost use Rattle.std.specs.Prelude.{◌≡◌, ◌^◌, ◌<◌, ◌≤◌};
 ghost use Rattle.rule.specs.Rule.{Good};
 ghost use Rattle.rule.specs.Samples.{range_count, next_hit};

@@ -1,5 +1,6 @@
 // The lines of potcount: reading one, and printing an answer.
 #![tactic(auto)]
+
 ghost use Rattle.std.specs.Prelude.{◌≡◌, ◌+◌, ◌≤◌, ◌<◌, length, drop};
 ghost use Rattle.lists.specs.Rows.{Stored};
 ghost use Rattle.line.specs.Lines.{command_of};

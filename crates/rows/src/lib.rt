@@ -1,5 +1,6 @@
 // Walks over rows of cells that test, count and search: one loop each.
 #![tactic(auto)]
+
 ghost use Rattle.std.specs.Prelude.{◌≡◌, true, ◌+◌, ◌-◌, length};
 ghost use Rattle.lists.specs.Lists.{filter};
 ghost use Rattle.lists.specs.Rows.{all_zero};
