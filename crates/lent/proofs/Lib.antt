@@ -1,6 +1,2 @@
--- The laws, and what the walks by hand stand on.
+-- The laws of the lent walker.
 pub mod Lendings
-pub mod Names
-pub mod Walk
-pub mod Data
-pub mod Loans

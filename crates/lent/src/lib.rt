@@ -1,10 +1,9 @@
 // The walker, lent: it is moved on where it stands.
 //
-// The borrow checker's own proofs follow numbers, arrays and slices behind a reference, but not a
-// struct, so each function that takes a `&mut Walker`, or lends one, is proved by a walk of its code
-// by hand. That is why there are only two and why each is thin: `next` copies the walker out, makes
-// a step by value and stores what changed; `moved_on` is for callers that have no such walk.
+// Both functions are thin: `next` makes a step by value and stores what changed, and `moved_on` is
+// for callers that have no walker to lend.
 #![tactic(auto)]
+
 ghost use Rattle.find.specs.Walking.{Steps};
 ghost use Rattle.lent.specs.Lending.{Lends};
 
