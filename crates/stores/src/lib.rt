@@ -1,5 +1,6 @@
 // Cells stored in a row: one loop each. A row is lent, and what stands after what is stored stays.
 #![tactic(auto)]
+
 ghost use Rattle.std.specs.Prelude.{◌≡◌, true, ◌+◌, ◌-◌, ◌≤◌, min, length, take, replicate};
 ghost use Rattle.std.proofs.Math.Seq.{slice};
 ghost use Rattle.lists.specs.Lists.{filter, range};
