@@ -1,6 +1,7 @@
 // What adding and merging come down to: cells kept at a level, and a range. No sketch is known here:
 // the cells are lent. Adding works on their row; what a merge keeps goes into a row lent as well.
 #![tactic(auto)]
+
 ghost use Rattle.std.specs.Prelude.{◌≡◌, ◌+◌, ◌-◌, ◌≤◌, max, length, take, replicate, true};
 ghost use Rattle.lists.specs.Lists.{listed, filter};
 ghost use Rattle.lists.specs.Rows.{Stored};

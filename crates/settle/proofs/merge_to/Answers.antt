@@ -1,0 +1,49 @@
+-- `settle::merge_to` meets its contract. Assumes nothing.
+use mathlib.Core.Path.{sym}
+use lib.Seq.{length-take-le}
+use Rattle.lists.specs.Lists.{listed}
+use Rattle.rule.specs.Cells.{Cells}
+use Rattle.settle.specs.Settling.{kept_in}
+use Rattle.settle.proofs.Unions.{keeps_higher, keeps_lower}
+use borrow.Author.Rules.{rules}
+use Rattle.settle.proofs.merge_to.Goals as goal
+use Rattle.settle.proofs.merge_to.Goals.{Start}
+
+-- the cells of both
+abbrev mine : Start → Cells
+mine c = listed (kept_in c.args.mine c.args.row.now)
+
+abbrev its : Start → Cells
+its c = listed (kept_in c.args.its c.args.other.now)
+
+pub slice_bounds-merge_down-end : goal.slice_bounds-merge_down-end
+slice_bounds-merge_down-end c =
+    let start = c in
+    sym (length-take-le _ _ start.requires.1.within)
+
+pub slice_bounds-merge_down-end-then-mine-its : goal.slice_bounds-merge_down-end-then-mine-its
+slice_bounds-merge_down-end-then-mine-its c =
+    let start = c in
+    sym (length-take-le _ _ start.requires.0.within)
+
+pub returns-then-mine-its : goal.returns-then-mine-its
+returns-then-mine-its c =
+    let then = c in
+    let start = then in
+    keeps_higher (mine start) (its start) then.if-mine-its.true c.merge_down.ensures
+
+pub slice_bounds-merge_down-end-2 : goal.slice_bounds-merge_down-end-2
+slice_bounds-merge_down-end-2 c =
+    let start = c in
+    sym (length-take-le _ _ start.requires.0.within)
+
+pub slice_bounds-merge_down-end-3 : goal.slice_bounds-merge_down-end-3
+slice_bounds-merge_down-end-3 c =
+    let start = c in
+    sym (length-take-le _ _ start.requires.1.within)
+
+pub returns : goal.returns
+returns c =
+    let else = c in
+    let start = else in
+    keeps_lower (mine start) (its start) else.if-mine-its.false c.merge_down-2.ensures
