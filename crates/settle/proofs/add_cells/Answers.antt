@@ -19,8 +19,8 @@ offset_bounds-cells-j c =
 pub slice_bounds-settled-count : goal.slice_bounds-settled-count
 slice_bounds-settled-count c = (cut_few c.requires.0).1
 
--- pub GONE_slice-bounds-settled-start : goal.GONE_slice-bounds-settled-start
--- GONE_slice-bounds-settled-start c = (cut_few c.requires.0).1
+pub slice_bounds-settled-start : goal.slice_bounds-settled-start
+slice_bounds-settled-start c = (cut_few c.requires.0).1
 
 pub settled-requires : goal.settled-requires
 settled-requires c = let p = c.requires in (cut_present p.0, p.0.counted, p.1)
@@ -29,5 +29,5 @@ pub returns : goal.returns
 returns c =
     let start = c in
     let kept = c.settled in
-    subst (λ (X : Cells). Keeps start.args.settings X start.args.level 504 kept.result.level kept.result.count kept.new.0)
+    subst (λ (X : Cells). Keeps start.args.settings X start.args.level 504 kept.result.level kept.result.count kept.new.out)
     (cut_all start.requires.0) kept.ensures

@@ -13,61 +13,48 @@ use Rattle.settle.proofs.Cuts.{own-pass, kept-few}
 use Rattle.settle.proofs.Unions.{both_alone, both_keeps}
 use borrow.Author.Rules.{rules}
 use Rattle.settle.proofs.merge_down.Goals as goal
-use Rattle.settle.proofs.merge_down.Goals.{After-thinned-kept, After-unite-many, Start}
-
--- what passes at the level
-abbrev thins : Start → Cells
-thins c = passes c.args.settings c.args.level
-
--- where the union is made
-abbrev start : After-unite-many → Start
-start c = c.before.before.before.before.before.before.before.before.before
-
--- the union of all that passes
-abbrev both : Start → List ℕ
-both c = union c.args.cells.now (filter (thins c) c.args.others.now)
-
--- it stands in front
-united : (c : After-unite-many) → take c.unite-many.result c.unite-many.new.out ≡ both (start c)
-united c =
-    (stored_front c.unite-many.ensures).0
-    ∙ ap (union (start c).args.cells.now) (stored_part c.store_at-end.ensures (omega (arith, (start c).requires.3)))
-
--- in the row that was lent
-sized : (c : After-thinned-kept) → length c.thinned-kept.new.out ≡ 1008
-sized c =
-    let unite = c.before.before.before.before in
-    omega (arith, c.thinned-kept.auto.out, unite.unite-many.auto.out, unite.store_at-end.auto.out, (start unite).requires.3)
 
 pub store_at-end-requires : goal.store_at-end-requires
 store_at-end-requires c =
-    let start = c.before.before.before.before in
-    (start.requires.0.good, own-pass start.requires.1, omega (arith, start.requires.3, kept-few start.requires.1 (thins start)))
+    let start = c in
+    (start.requires.0.good, own-pass start.requires.1, omega (arith, start.requires.3, kept-few start.requires.1 (passes c.args.settings c.args.level)))
 
 pub unite-many-requires : goal.unite-many-requires
 unite-many-requires c =
-    let start = c.before.before.before.before.before.before.before.before in
+    let start = c in
     let stored = c.store_at-end in (
       omega (arith, start.requires.0.few, start.requires.0.good.capacity_high),
       omega (arith, stored.ensures.next_place),
-      omega (arith, stored.ensures.next_place, stored.auto.0, start.requires.3, kept-few start.requires.1 (thins start)),
+      omega (arith, stored.ensures.next_place, stored.auto.out, start.requires.3, kept-few start.requires.1 (passes c.args.settings c.args.level)),
     )
 
 pub thinned-kept-requires : goal.thinned-kept-requires
 thinned-kept-requires c =
-    let unite = c.before.before.before in
-    let w = (start unite).requires in
-    (both_alone w.0 w.1 (united unite), (stored_front unite.unite-many.ensures).1)
+    let united : take c.unite-many.result c.unite-many.new.out ≡ (union c.args.cells.now (filter (passes c.args.settings c.args.level) c.args.others.now)) =
+    (stored_front c.unite-many.ensures).0
+    ∙ ap (union c.args.cells.now) (stored_part c.store_at-end.ensures (omega (arith, c.requires.3))) in
+    let unite = c in
+    let w = c.requires in
+    (both_alone w.0 w.1 united, (stored_front unite.unite-many.ensures).1)
 
 pub clear-requires : goal.clear-requires
 clear-requires c =
-    let thinned = c.before.before.before.before in
-    let e = sized thinned in
+    let sized : length c.thinned-kept.new.out ≡ 1008 =
+    let unite = c in
+    omega (arith, c.thinned-kept.auto.out, unite.unite-many.auto.out, unite.store_at-end.auto.out, c.requires.3) in
+    let thinned = c in
+    let e = sized in
     (omega (arith, (stored_front thinned.thinned-kept.ensures.stored).1, e), omega (arith, e))
 
 pub returns : goal.returns
 returns c =
-    let thinned = c.before.before.before.before.before.before.before in
+    let united : take c.unite-many.result c.unite-many.new.out ≡ (union c.args.cells.now (filter (passes c.args.settings c.args.level) c.args.others.now)) =
+    (stored_front c.unite-many.ensures).0
+    ∙ ap (union c.args.cells.now) (stored_part c.store_at-end.ensures (omega (arith, c.requires.3))) in
+    let sized : length c.thinned-kept.new.out ≡ 1008 =
+    let unite = c in
+    omega (arith, c.thinned-kept.auto.out, unite.unite-many.auto.out, unite.store_at-end.auto.out, c.requires.3) in
+    let thinned = c in
     let unite = thinned in
-    let w = (start unite).requires in
-    both_keeps w.0 w.1 (united unite) refl thinned.thinned-kept.ensures (sized thinned) c.clear.ensures
+    let w = c.requires in
+    both_keeps w.0 w.1 united refl thinned.thinned-kept.ensures sized c.clear.ensures

@@ -7,14 +7,6 @@ use Rattle.settle.specs.Settling.{kept_in}
 use Rattle.settle.proofs.Unions.{keeps_higher, keeps_lower}
 use borrow.Author.Rules.{rules}
 use Rattle.settle.proofs.merge_to.Goals as goal
-use Rattle.settle.proofs.merge_to.Goals.{Start}
-
--- the cells of both
-abbrev mine : Start → Cells
-mine c = listed (kept_in c.args.mine c.args.row.now)
-
-abbrev its : Start → Cells
-its c = listed (kept_in c.args.its c.args.other.now)
 
 pub slice_bounds-merge_down-end : goal.slice_bounds-merge_down-end
 slice_bounds-merge_down-end c =
@@ -30,7 +22,7 @@ pub returns-then-mine-its : goal.returns-then-mine-its
 returns-then-mine-its c =
     let then = c in
     let start = then in
-    keeps_higher (mine start) (its start) then.if-mine-its.true c.merge_down.ensures
+    keeps_higher (listed (kept_in c.args.mine c.args.row.now)) (listed (kept_in c.args.its c.args.other.now)) then.if-mine-its.true c.merge_down.ensures
 
 pub slice_bounds-merge_down-end-2 : goal.slice_bounds-merge_down-end-2
 slice_bounds-merge_down-end-2 c =
@@ -46,4 +38,4 @@ pub returns : goal.returns
 returns c =
     let else = c in
     let start = else in
-    keeps_lower (mine start) (its start) else.if-mine-its.false c.merge_down-2.ensures
+    keeps_lower (listed (kept_in c.args.mine c.args.row.now)) (listed (kept_in c.args.its c.args.other.now)) else.if-mine-its.false c.merge_down-2.ensures

@@ -9,23 +9,24 @@ use Rattle.lists.specs.Rows.{Stored}
 use Rattle.rule.specs.Rule.{passes}
 use borrow.Author.Rules.{rules}
 use Rattle.settle.proofs.store_at.Goals as goal
-use Rattle.settle.proofs.store_at.Goals.{Then-own-level}
-
--- at their own level all cells pass
-own : (c : Then-own-level) → c.args.cells.now
-    ≡ filter (passes c.args.settings c.args.level) c.args.cells.now
-own c =
-    let a = c.args in
-    sym c.requires.1 ∙ ap (λ (l : ℕ). filter (passes a.settings l) a.cells.now) c.if-own-level.true
 
 pub store-requires : goal.store-requires
-store-requires c = omega (arith, ap length (own c.before), c.requires.2)
+store-requires c =
+    let own : c.args.cells.now
+    ≡ filter (passes c.args.settings c.args.level) c.args.cells.now =
+    let a = c.args in
+    sym c.requires.1 ∙ ap (λ (l : ℕ). filter (passes a.settings l) a.cells.now) c.if-own-level.true in
+    omega (arith, ap length own, c.requires.2)
 
 pub returns-then-own-level : goal.returns-then-own-level
 returns-then-own-level c =
-    let then = c.before.before.before.before in
+    let own : c.args.cells.now
+    ≡ filter (passes c.args.settings c.args.level) c.args.cells.now =
+    let a = c.args in
+    sym c.requires.1 ∙ ap (λ (l : ℕ). filter (passes a.settings l) a.cells.now) c.if-own-level.true in
+    let then = c in
     let a = then.args in
-    subst (λ (xs : List ℕ). Stored a.out.now a.at xs c.store.result c.store.new.out) (own then)
+    subst (λ (xs : List ℕ). Stored a.out.now a.at xs c.store.result c.store.new.out) own
     c.store.ensures
 
 pub store_passing-requires : goal.store_passing-requires
