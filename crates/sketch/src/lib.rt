@@ -1,5 +1,6 @@
 // The sketch, by value: is it one, opening, adding, merging, the estimate.
 #![tactic(auto)]
+
 ghost use Rattle.std.specs.Prelude.{◌≡◌, true, ◌^◌, ◌≤◌, length};
 ghost use Rattle.find.specs.Finding.{in_range};
 ghost use Rattle.sketch.specs.Sketches.{held, is_sketch, kept_of, Sound, opened, add, merge};
