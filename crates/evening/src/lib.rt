@@ -1,5 +1,6 @@
 // An evening of potcount on bytes: each line is answered with a line, and the open sketch is kept from one to the next.
 #![tactic(auto)]
+
 ghost use Rattle.std.specs.Prelude.{◌≡◌};
 ghost use Rattle.lists.specs.Rows.{Stored};
 ghost use Rattle.evening.specs.Replies.{Sits, Room, Tells, refusal, kept, open_reply, add_reply, estimate_reply, count_reply, next_reply};

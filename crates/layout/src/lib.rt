@@ -1,5 +1,6 @@
 // The layout of an image, for the writer and the reader.
 #![tactic(auto)]
+
 ghost use Rattle.std.specs.Prelude.{◌≡◌, ◌<◌, min};
 ghost use Rattle.layout.specs.Images.{blocks_for};
 

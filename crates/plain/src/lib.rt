@@ -1,6 +1,7 @@
 // A second engine, for small kitchens: it counts, finds and adds by testing each cell, as one does
 // with a pencil. No folding and no jumps: what it does can be followed cell by cell.
 #![tactic(auto)]
+
 ghost use Rattle.std.specs.Prelude.{◌≡◌, cond, ◌≤◌};
 ghost use Rattle.rule.specs.Rule.{passes};
 ghost use Rattle.rule.specs.Samples.{range_count, next_hit};

@@ -1,6 +1,7 @@
 // The sketches that the programs on images write: under one set of settings, of the stretch 1..last.
 // tests/images.py has the same settings.
 #![tactic(auto)]
+
 ghost use Rattle.std.specs.Prelude.{◌≡◌};
 ghost use Rattle.seen.specs.Seen.{up_to};
 

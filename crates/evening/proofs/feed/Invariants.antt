@@ -1,0 +1,20 @@
+-- `evening::feed` meets its contract: a turn is a byte of the run. Assumes nothing.
+use borrow.Author.Rules.{rules}
+use Prim.Native.Nat.{◌-◌, ◌≤◌, ◌<◌}
+use mathlib.Core.Path.{◌≡◌, sym}
+use native.Mathlib.Omega.{arith}
+use lib.ListN.{length, length-set}
+use borrow.Author.Tests.{leb-true, leb-false}
+use lib.Seq.{length-take-le}
+use Rattle.evening.specs.declared.Evening.{Evening}
+use Rattle.evening.proofs.Feeding.{Feeding, feeding_start, feeding_line, feeding_noted, feeding_long, feeding_done, feeding_full}
+use Rattle.evening.proofs.feed.Given as goal
+
+abbrev pub invariant-loop-taken : goal.invariant-loop-taken
+invariant-loop-taken l =
+    let s₀ : Evening = record { pot = l.initial.pot; length = l.initial.length; line = l.initial.line } in
+    let s : Evening = record { pot = l.pot; length = l.length; line = l.line } in
+    Feeding s₀ l.input l.initial.out s l.taken l.out l.written × (l.room ≡ length l.initial.out) × (length l.line ≡ 65)
+
+abbrev pub decreases-loop-taken : goal.decreases-loop-taken
+decreases-loop-taken l = length l.input - l.taken

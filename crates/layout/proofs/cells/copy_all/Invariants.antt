@@ -1,0 +1,15 @@
+-- `layout::cells::copy_all` meets its contract: after i turns the cells of i blocks are copied. Assumes nothing.
+use Prim.Native.Nat.{◌*◌, ◌-◌, ◌≤◌}
+use mathlib.Core.Path.{◌≡◌, sym, ap, ◌∙◌}
+use native.Mathlib.Omega.{arith}
+use lib.ListN.{length, take}
+use Rattle.lists.specs.Rows.{pad}
+use Rattle.layout.proofs.Turns.{row-length, cells_part, cells_turn, cells_end}
+use Rattle.layout.specs.Images.{blocks_for, cells_in}
+use Rattle.layout.proofs.cells.copy_all.Given as goal
+
+abbrev pub invariant-loop-i : goal.invariant-loop-i
+invariant-loop-i l = (l.i ≤ l.blocks) × (l.row ≡ pad 504 (take (126 * l.i) (cells_in (blocks_for l.count) l.count l.s)))
+
+abbrev pub decreases-loop-i : goal.decreases-loop-i
+decreases-loop-i l = l.blocks - l.i

@@ -1,0 +1,19 @@
+-- `plain::adding::gather` meets its contract. So far it has stored what the walk has seen; the cells left fall. Assumes nothing.
+use Prim.Native.Nat.{suc, ◌-◌, ◌<◌, ◌≤◌}
+use mathlib.Core.Path.{◌≡◌, refl, sym}
+use mathlib.Core.Logic.{⊎_elim}
+use native.Mathlib.Omega.{arith}
+use lib.ListN.{length, length-set}
+use Rattle.lists.specs.Rows.{Stored}
+use Rattle.lists.proofs.Stores.{stored-none, stored_as}
+use Rattle.rule.specs.Samples.{sample}
+use Rattle.plain.proofs.Walks.{seen, seen_none, seen_all, so, store_room, store_on, store_off}
+use Rattle.plain.proofs.Sampling.{in_sample}
+use Rattle.plain.proofs.adding.gather.Given as goal
+
+abbrev pub invariant-loop-x : goal.invariant-loop-x
+invariant-loop-x l =
+    (1 ≤ l.x) × (l.x - 1 ≤ suc l.settings.n - 1) × (length l.out ≡ length l.initial.out) × Stored l.initial.out 0 (seen (in_sample l.settings l.level l.kept l.lo l.hi) 1 l.x) l.many l.out
+
+abbrev pub decreases-loop-x : goal.decreases-loop-x
+decreases-loop-x l = suc l.settings.n - l.x
