@@ -1,5 +1,6 @@
 // The image of a sketch: writing it into lent room, and reading it back.
 #![tactic(auto)]
+
 ghost use Rattle.std.specs.Prelude.{◌≡◌, length};
 ghost use Rattle.sketch.specs.Sketches.{held};
 ghost use Rattle.image.specs.Calls.{Writes, Reads, loaded_with};
