@@ -1,5 +1,6 @@
 // How settings, sketches and walkers stand in rows of numbers; `told` has the answers.
 #![tactic(auto)]
+
 ghost use Rattle.std.specs.Prelude.{◌≡◌, ◌≤◌, length, drop};
 ghost use Rattle.sketch.specs.Sketches.{held, is_sketch, kept_of};
 ghost use Rattle.crossing.specs.Crossing.{settings_from, sketch_in, sketch_row, walker_in, walker_row};
