@@ -1,6 +1,6 @@
 -- `rule::odd_divisor` meets its contract: each turn keeps the common divisors. Assumes nothing.
-use Prim.Native.Nat.{ℕ, ◌+◌, ◌%◌, ◌^◌, ◌<◌}
-use mathlib.Core.Path.{◌≡◌, sym, subst}
+use Prim.Native.Nat.{ℕ}
+use mathlib.Core.Path.{sym, subst}
 use native.Mathlib.Omega.{arith}
 use Rattle.rule.proofs.Divisors.{KeepsDivisors, keeps_start, keeps_turn, keeps_end, equal_bits, strips_rest, strips_few}
 use Rattle.rule.proofs.odd_divisor.Goals as goal

@@ -1,8 +1,7 @@
 -- `rule::odd_divisor` meets its contract: each turn keeps the common divisors. Assumes nothing.
-use Prim.Native.Nat.{ℕ, ◌+◌, ◌%◌, ◌^◌, ◌<◌}
-use mathlib.Core.Path.{◌≡◌, sym, subst}
-use native.Mathlib.Omega.{arith}
-use Rattle.rule.proofs.Divisors.{KeepsDivisors, keeps_start, keeps_turn, keeps_end, equal_bits, strips_rest, strips_few}
+use Prim.Native.Nat.{◌+◌, ◌%◌, ◌^◌, ◌<◌}
+use mathlib.Core.Path.{◌≡◌}
+use Rattle.rule.proofs.Divisors.{KeepsDivisors}
 use Rattle.rule.proofs.odd_divisor.Given as goal
 
 abbrev pub invariant-loop-x : goal.invariant-loop-x

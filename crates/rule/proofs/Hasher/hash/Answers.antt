@@ -6,7 +6,6 @@ use native.Mathlib.Nat.{mod-lt}
 use Rattle.rule.specs.Rule.{hash}
 use Rattle.rule.proofs.Passing.{product_fits}
 use Rattle.rule.proofs.Fractions.{Divided, divided}
-use borrow.Author.Rules.{rules}
 use Rattle.rule.proofs.Hasher.hash.Goals as goal
 
 -- the numbers of the code, in the order a, b, p, x and the two fractions

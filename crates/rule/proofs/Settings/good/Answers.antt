@@ -1,7 +1,6 @@
 -- `rule::Settings::good` meets its contract. Assumes nothing.
 use mathlib.Core.Bool.{and-true}
 use Rattle.rule.specs.Rule.{is_good}
-use borrow.Author.Rules.{rules}
 use Rattle.rule.proofs.Settings.good.Goals as goal
 
 pub returns : goal.returns

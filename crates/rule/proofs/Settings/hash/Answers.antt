@@ -4,7 +4,6 @@ use native.Mathlib.Omega.{arith}
 use native.Mathlib.Nat.{mod-zero}
 use Rattle.rule.specs.Rule.{hash}
 use Rattle.rule.proofs.Passing.{product_fits}
-use borrow.Author.Rules.{rules}
 use Rattle.rule.proofs.Settings.hash.Goals as goal
 
 pub overflow_mul-whole : goal.overflow_mul-whole

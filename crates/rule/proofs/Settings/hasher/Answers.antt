@@ -1,7 +1,6 @@
 -- `rule::Settings::hasher` meets its contract: both fractions are below 1. Assumes nothing.
 use native.Mathlib.Omega.{arith}
 use Rattle.rule.proofs.Fractions.{fraction_fits}
-use borrow.Author.Rules.{rules}
 use Rattle.rule.proofs.Settings.hasher.Goals as goal
 
 pub overflow_cast-result : goal.overflow_cast-result

@@ -1,6 +1,5 @@
 -- `rule::Settings::passes` meets its contract. Assumes nothing.
 use Rattle.rule.specs.Rule.{passes}
-use borrow.Author.Rules.{rules}
 use Rattle.rule.proofs.Settings.passes.Goals as goal
 
 pub returns : goal.returns

@@ -1,5 +1,5 @@
 -- `rule::Settings::region` meets its contract. Assumes nothing.
-use Prim.Native.Nat.{◌/◌, ◌^◌, ◌<◌}
+use Prim.Native.Nat.{◌^◌, ◌<◌}
 use native.Mathlib.Omega.{arith}
 use Rattle.rule.specs.Rule.{region}
 use Rattle.rule.proofs.Passing.{region_past}
