@@ -1,7 +1,4 @@
--- The laws, and what the walks by hand stand on.
+-- The laws.
 pub mod Places
 pub mod Runs
 pub mod Rows
-pub mod Data
-pub mod Lent
-pub mod Calls

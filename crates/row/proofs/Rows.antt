@@ -7,9 +7,8 @@
 -- Assumes nothing.
 use Prim.Native.Nat.{ℕ}
 use mathlib.Core.Path.{◌≡◌, refl, sym, ap, ◌∙◌}
-use mathlib.Core.Bool.{Bool, true, false, not, false≢true}
+use mathlib.Core.Bool.{Bool, true, false, false≢true}
 use mathlib.Core.List.{List, [], ◌∷◌}
-use lib.Dec.{T}
 use Rattle.rule.specs.declared.Settings.{Settings}
 use Rattle.rule.specs.Refusals.{Paper, answered, refused, unless, unless_at, is_answered, bad_range, not_one, of_row}
 use Rattle.rule.proofs.Readings.{row_one}
@@ -18,14 +17,12 @@ use Rattle.sketch.specs.declared.Sketch.{Sketch}
 use Rattle.sketch.specs.Sketches.{is_sketch, add}
 use Rattle.sketch.specs.Calls.{add_on, handed}
 use Rattle.sketch.proofs.Facts.{sketch_facts}
-use Rattle.sketch.proofs.Making.{sound}
 use Rattle.sketch.proofs.Handing.{add_in}
 use Rattle.sketch.proofs.Results.{add_again}
 use Rattle.row.specs.declared.Stretch.{Stretch}
 use Rattle.rule.specs.declared.answers.RowAnswer.{RowAnswer}
 use Rattle.row.specs.declared.RowChanged.{RowChanged}
 use Rattle.row.specs.Stretches.{within, all_in, first_bad, add_all, AddsAll, row_when, row_on, row_changed, HandsRow}
-use Rattle.row.proofs.Places.{t_false, t_true}
 use Rattle.row.proofs.Runs.{add-settings}
 
 -- ---- the answers
@@ -87,26 +84,26 @@ module _ (k : Sketch) (ts : List Stretch) (known : Bool) (e : known ≡ is_sketc
   unfolding row_on
   row_is = f ∙ ap (λ (t : Bool). row_when t k.settings ts) e
 
-  pub takes_all : T done → AddsAll k ts
+  pub takes_all : done ≡ true → AddsAll k ts
   takes_all d =
-      let h = answered-all known (all_in k.settings ts) (first_bad k.settings ts) (sym (g ∙ ap is_answered f) ∙ t_true done d) in
+      let h = answered-all known (all_in k.settings ts) (first_bad k.settings ts) (sym (g ∙ ap is_answered f) ∙ d) in
       record { sound = sketch_facts k (sym e ∙ h.0); good = h.1 }
 
   -- what is handed back
-  pub next_done : T done → add_all k ts ≡ handed (row_on k ts) (add_all k ts) k
-  next_done d = handed_next (row_on k ts) (add_all k ts) k (sym (g ∙ ap is_answered row_is) ∙ t_true done d)
+  pub next_done : done ≡ true → add_all k ts ≡ handed (row_on k ts) (add_all k ts) k
+  next_done d = handed_next (row_on k ts) (add_all k ts) k (sym (g ∙ ap is_answered row_is) ∙ d)
 
-  pub old_back : T (not done) → k ≡ handed (row_on k ts) (add_all k ts) k
-  old_back d = handed_old (row_on k ts) (add_all k ts) k (sym (g ∙ ap is_answered row_is) ∙ t_false done d)
+  pub old_back : done ≡ false → k ≡ handed (row_on k ts) (add_all k ts) k
+  old_back d = handed_old (row_on k ts) (add_all k ts) k (sym (g ∙ ap is_answered row_is) ∙ d)
 
-  pub out_done : T done → (v : Sketch) → v ≡ add_all k ts → (r : RowChanged) → r ≡ row_changed a v → Handed r
+  pub out_done : done ≡ true → (v : Sketch) → v ≡ add_all k ts → (r : RowChanged) → r ≡ row_changed a v → Handed r
   out_done d v q r w =
       record {
         answer = ap (λ (x : RowChanged). of_row x.answer) w ∙ row_is;
         sketch = ap (λ (x : RowChanged). x.sketch) w ∙ q ∙ next_done d;
       }
 
-  pub out_back : T (not done) → (r : RowChanged) → r ≡ row_changed a k → Handed r
+  pub out_back : done ≡ false → (r : RowChanged) → r ≡ row_changed a k → Handed r
   out_back d r w =
       record {
         answer = ap (λ (x : RowChanged). of_row x.answer) w ∙ row_is;

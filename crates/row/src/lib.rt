@@ -1,9 +1,9 @@
 // A whole row of stretches in one call: all of it is added, or nothing.
 //
-// The borrow checker's own proofs don't follow a slice of structs, so each function that takes one
-// is proved by a walk of its code by hand. That is why they are few and thin: what they call takes
+// The row is lent and only read. The functions that walk it are few and thin: what they call takes
 // and hands back values.
 #![tactic(auto)]
+
 ghost use Rattle.std.specs.Prelude.{◌≡◌, [], ◌∷◌};
 ghost use Rattle.row.specs.Stretches.{within, first_bad, add_all, judged_at, row_when, row_on, AddsAll, row_changed, HandsRow};
 ghost use Rattle.rule.specs.Refusals.{is_answered, of_row};
@@ -118,7 +118,7 @@ pub fn add_row(sketch: Sketch, row: &[Stretch]) -> RowChanged
     changed(answer, sketch)
 }
 
-// Two stretches by value, for callers that have no walk by hand: a local row is lent here.
+// Two stretches by value, for callers that have no row to lend: a local row is lent here.
 pub fn add_two(sketch: Sketch, first: Stretch, second: Stretch) -> RowChanged
     ensures { HandsRow (row_on sketch (first ∷ second ∷ [])) (add_all sketch (first ∷ second ∷ [])) sketch result }
 {
