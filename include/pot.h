@@ -31,7 +31,7 @@
  *         return 0;
  *     }
  *
- * `rt staticlib host` writes the library, which needs nothing but memcpy and memset. To link:
+ * `sh tests/staticlib.sh` writes the library, which needs nothing but memcpy and memset. To link:
  *
  *     cc -std=c11 -Iinclude examples/evening.c target/staticlib/libhost.a -o evening
  *

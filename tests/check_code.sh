@@ -2,37 +2,39 @@
 # The check of a block has no division in its machine code, and no multiplication that stands for one. Compilers divide
 # by a constant by a multiplication of 64 bits; each of ours is a word by its weight, of 16 bits or of 32.
 # Proves the crate `block` in a folder of its own, below a crate that exports the check by itself, and looks at what
-# that compiles to: `sh tests/check_code.sh show` prints it. Wants the library too (`rt staticlib host`), in which the
-# same code stands inside the calls.
+# that compiles to: `sh tests/check_code.sh show` prints it. Wants the library too (`sh tests/staticlib.sh`), in which
+# the same code stands inside the calls.
 set -e
 cd "$(dirname "$0")/.."
 library=$PWD/target/staticlib/libhost.a
 work=$(mktemp -d)
 trap 'rm -rf "$work"' EXIT
 mkdir -p "$work/crates/alone/src"
-cp -r crates/block "$work/crates"
-printf 'block:\nalone: block\n' > "$work/crates.txt"
+mkdir "$work/crates/block"
+cp -r crates/block/src crates/block/specs crates/block/proofs "$work/crates/block"
+printf 'block:\nalone staticlib: block\n' > "$work/crates.txt"
 cat > "$work/crates/alone/src/lib.rt" <<'RATTLE'
-ghost use mathlib.Core.Path.{_≡_};
-ghost use lib.ListN.{take};
-ghost use Rattle·block.specs.Sums.{blockGood, sealed};
+#![tactic(auto)]
 
-#[no_mangle]
+ghost use Rattle.std.specs.Prelude.{◌≡◌, take};
+ghost use Rattle.block.specs.Sums.{block_good, sealed};
+
+#[unsafe(no_mangle)]
 pub extern "C" fn good(s: &[u8; 512]) -> bool
-    ensures { λ r. ⌜ r ≡ blockGood (now (s .entry)) ⌝ }
+    ensures { result ≡ block_good s.now }
 {
     block::good(s)
 }
 
-#[no_mangle]
+#[unsafe(no_mangle)]
 pub extern "C" fn seal(s: &mut [u8; 512])
-    ensures { λ _. ⌜ now (s .exit) ≡ sealed (take 508 (now (s .entry))) ⌝ }
+    ensures { s.new ≡ sealed (take 508 s.old) }
 {
     block::seal(s)
 }
 RATTLE
-(cd "$work" && rt staticlib alone > said 2>&1 || { cat said; exit 1; })
-alone=$work/target/staticlib/libalone.a
+(cd "$work/crates/alone" && rt lib > "$work/said" 2>&1 || { cat "$work/said"; exit 1; })
+alone=$work/crates/alone/out/libalone.a
 [ "${1:-}" != show ] || objdump -d --no-show-raw-insn "$alone"
 
 # FUNCTION MNEMONIC OPERANDS, a line for each instruction.

@@ -1,5 +1,5 @@
 #!/bin/sh
-# What include/pot.h says, tried out in C. Wants the library: `rt staticlib host`.
+# What include/pot.h says, tried out in C. Wants the library: `sh tests/staticlib.sh`.
 set -e
 cd "$(dirname "$0")/.."
 library=target/staticlib/libhost.a

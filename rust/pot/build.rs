@@ -11,7 +11,7 @@ fn main() {
     println!("cargo:rerun-if-changed={}", archive.display());
     assert!(
         archive.is_file(),
-        "no library at {}: run `rt staticlib host` in the repository, or set POT_LIB_DIR",
+        "no library at {}: run `sh tests/staticlib.sh` in the repository, or set POT_LIB_DIR",
         archive.display()
     );
     println!("cargo:rustc-link-search=native={}", folder.display());

@@ -2,6 +2,7 @@
 // cross as 5 numbers, a walker as 8, a sketch as 511, each of 32 bits. Every call takes whatever
 // stands there: a forged row is answered by the library's own tests, and no call asks anything.
 #![tactic(auto)]
+
 ghost use Rattle.std.specs.Prelude.{◌≡◌, length};
 ghost use Rattle.find.specs.Finding.{count_on, next_on};
 ghost use Rattle.sketch.specs.Estimates.{of_estimate, estimate_on};
@@ -123,42 +124,32 @@ fn read_in(bytes: &[u8], row: &mut [u32]) -> Taken
     t
 }
 
-#[unsafe(no_mangle)]
-pub extern "C" fn pot_open(settings: &[u32; SETTINGS], sketch: &mut [u32; SKETCH]) -> u32
+pub fn pot_open(settings: &[u32; SETTINGS], sketch: &mut [u32; SKETCH]) -> u32
     ensures { Opens settings.now result sketch.new }
 {
     open_in(settings, sketch)
 }
 
-#[unsafe(no_mangle)]
-pub extern "C" fn pot_add(sketch: &mut [u32; SKETCH], lo: u32, hi: u32) -> u32
+pub fn pot_add(sketch: &mut [u32; SKETCH], lo: u32, hi: u32) -> u32
     ensures { Adds sketch.old lo hi result sketch.new }
 {
     add_in(sketch, lo, hi)
 }
 
 // The same by the plain engine, as the two after it: for n up to its limit.
-#[unsafe(no_mangle)]
-pub extern "C" fn pot_plain_add(sketch: &mut [u32; SKETCH], lo: u32, hi: u32) -> u32
+pub fn pot_plain_add(sketch: &mut [u32; SKETCH], lo: u32, hi: u32) -> u32
     ensures { PlainAdds sketch.old lo hi result sketch.new }
 {
     plain_add_in(sketch, lo, hi)
 }
 
-#[unsafe(no_mangle)]
-pub extern "C" fn pot_plain_count(
-    settings: &[u32; SETTINGS],
-    level: u32,
-    lo: u32,
-    hi: u32,
-) -> ToldValue
+pub fn pot_plain_count(settings: &[u32; SETTINGS], level: u32, lo: u32, hi: u32) -> ToldValue
     ensures { Crosses (plain_count_on (settings_from settings.now) level lo hi) result.number result.value }
 {
     told_count(plain::count(settings_in(settings), level, lo, hi))
 }
 
-#[unsafe(no_mangle)]
-pub extern "C" fn pot_plain_next_hit(settings: &[u32; SETTINGS], level: u32, from: u32) -> ToldValue
+pub fn pot_plain_next_hit(settings: &[u32; SETTINGS], level: u32, from: u32) -> ToldValue
     ensures { Crosses (plain_next_on (settings_from settings.now) level from) result.number result.value }
 {
     let told = told_cell(plain::next_hit(settings_in(settings), level, from));
@@ -169,8 +160,7 @@ pub extern "C" fn pot_plain_next_hit(settings: &[u32; SETTINGS], level: u32, fro
 }
 
 // A row of stretches: all of it is added, or nothing.
-#[unsafe(no_mangle)]
-pub extern "C" fn pot_add_row(sketch: &mut [u32; SKETCH], row: &[Stretch]) -> ToldPlace
+pub fn pot_add_row(sketch: &mut [u32; SKETCH], row: &[Stretch]) -> ToldPlace
     ensures { AddsRow sketch.old row.now result.number result.place sketch.new }
 {
     let asked = asked_in(sketch);
@@ -182,29 +172,25 @@ pub extern "C" fn pot_add_row(sketch: &mut [u32; SKETCH], row: &[Stretch]) -> To
     told_place(answer)
 }
 
-#[unsafe(no_mangle)]
-pub extern "C" fn pot_merge(sketch: &mut [u32; SKETCH], other: &[u32; SKETCH]) -> u32
+pub fn pot_merge(sketch: &mut [u32; SKETCH], other: &[u32; SKETCH]) -> u32
     ensures { Merges sketch.old other.now result sketch.new }
 {
     merge_in(sketch, other)
 }
 
-#[unsafe(no_mangle)]
-pub extern "C" fn pot_estimate(sketch: &[u32; SKETCH]) -> ToldDouble
+pub fn pot_estimate(sketch: &[u32; SKETCH]) -> ToldDouble
     ensures { Weighs (estimate_on (sketch_in sketch.now)) result.number result.exact result.value }
 {
     told_double(estimate_in(sketch))
 }
 
-#[unsafe(no_mangle)]
-pub extern "C" fn pot_count(settings: &[u32; SETTINGS], level: u32, lo: u32, hi: u32) -> ToldValue
+pub fn pot_count(settings: &[u32; SETTINGS], level: u32, lo: u32, hi: u32) -> ToldValue
     ensures { Crosses (count_on (settings_from settings.now) level lo hi) result.number result.value }
 {
     told_count(find::count(settings_in(settings), level, lo, hi))
 }
 
-#[unsafe(no_mangle)]
-pub extern "C" fn pot_next_hit(settings: &[u32; SETTINGS], level: u32, from: u32) -> ToldValue
+pub fn pot_next_hit(settings: &[u32; SETTINGS], level: u32, from: u32) -> ToldValue
     ensures { Crosses (next_on (settings_from settings.now) level from) result.number result.value }
 {
     let told = told_cell(find::next_hit(settings_in(settings), level, from));
@@ -214,8 +200,7 @@ pub extern "C" fn pot_next_hit(settings: &[u32; SETTINGS], level: u32, from: u32
     }
 }
 
-#[unsafe(no_mangle)]
-pub extern "C" fn pot_walker_open(
+pub fn pot_walker_open(
     settings: &[u32; SETTINGS],
     level: u32,
     lo: u32,
@@ -231,8 +216,7 @@ pub extern "C" fn pot_walker_open(
     number_of(a)
 }
 
-#[unsafe(no_mangle)]
-pub extern "C" fn pot_walker_next(walker: &mut [u32; WALKER]) -> ToldCell
+pub fn pot_walker_next(walker: &mut [u32; WALKER]) -> ToldCell
     ensures { Moves (walker_in walker.old) result.number result.cell walker.new }
 {
     let w = walker_in(walker);
@@ -243,15 +227,13 @@ pub extern "C" fn pot_walker_next(walker: &mut [u32; WALKER]) -> ToldCell
     told_cell(f)
 }
 
-#[unsafe(no_mangle)]
-pub extern "C" fn pot_write(sketch: &[u32; SKETCH], room: &mut [u8]) -> ToldLength
+pub fn pot_write(sketch: &[u32; SKETCH], room: &mut [u8]) -> ToldLength
     ensures { WritesOut (sketch_in sketch.now) room.old result.number result.length room.new }
 {
     told_length(write_in(sketch, room))
 }
 
-#[unsafe(no_mangle)]
-pub extern "C" fn pot_read(bytes: &[u8], sketch: &mut [u32; SKETCH]) -> ToldBlock
+pub fn pot_read(bytes: &[u8], sketch: &mut [u32; SKETCH]) -> ToldBlock
     ensures { ReadsIn bytes.now result.number result.block sketch.new }
 {
     told_block(read_in(bytes, sketch))
