@@ -4,5 +4,4 @@ pub mod Refusing
 pub mod Tight
 pub mod Engines
 pub mod Zeros
-pub mod Data
 pub mod Stretching

@@ -5,16 +5,15 @@
 -- Assumes nothing.
 use Prim.Native.Nat.{ℕ, ◌+◌, ◌<◌, ◌≤◌}
 use mathlib.Core.Path.{◌≡◌, refl, sym, ap, ◌∙◌}
-use mathlib.Core.Bool.{Bool, not}
+use mathlib.Core.Bool.{Bool, true, false}
 use mathlib.Core.List.{List}
-use lib.Dec.{T}
 use lib.ListN.{length, get_or}
 use Rattle.rule.specs.declared.answers.RowAnswer.{RowAnswer}
 use Rattle.rule.specs.Refusals.{of_row, is_answered}
 use Rattle.sketch.specs.Sketches.{is_sketch, add}
 use Rattle.row.specs.declared.Stretch.{Stretch}
 use Rattle.row.specs.Stretches.{add_all, AddsAll, row_when, row_on}
-use Rattle.row.proofs.Places.{none, t_twice}
+use Rattle.row.proofs.Places.{none}
 use Rattle.row.proofs.Runs.{AddsOne, Added, takes_next, one_more, no_more_left}
 use Rattle.row.proofs.Rows.{row_is, takes_all, next_done, old_back}
 use Rattle.host.specs.declared.stretches.Asked.{Asked}
@@ -53,17 +52,17 @@ module _ (h : List ℕ) (ts : List Stretch) (r : Asked) (e : r ≡ asked_of h) (
   is_row : of_row a ≡ row_on (sketch_in h) ts
   is_row = row_is (sketch_in h) ts r.known known a said done g
 
-  pub row-refused : T (not done) → length h ≡ 511 → {number place : ℕ} → Crosses (of_row a) number place → AddsRow h ts number place h
+  pub row-refused : done ≡ false → length h ≡ 511 → {number place : ℕ} → Crosses (of_row a) number place → AddsRow h ts number place h
   row-refused d len c =
       record {
         told = told c is_row;
         row = sym (row_again h len) ∙ ap sketch_row (old_back (sketch_in h) ts r.known known a said done g d);
       }
 
-  pub row-takes : T (not (not done)) → AddsAll (sketch_in h) ts
-  row-takes d = takes_all (sketch_in h) ts r.known known a said done g (t_twice done d)
+  pub row-takes : done ≡ true → AddsAll (sketch_in h) ts
+  row-takes d = takes_all (sketch_in h) ts r.known known a said done g d
 
-  pub row_done : T (not (not done)) → (after : List ℕ) → after ≡ sketch_row (add_all (sketch_in h) ts) → {number place : ℕ} → Crosses (of_row a) number place
+  pub row_done : done ≡ true → (after : List ℕ) → after ≡ sketch_row (add_all (sketch_in h) ts) → {number place : ℕ} → Crosses (of_row a) number place
       → AddsRow h ts number place after
   row_done d after q c =
-      record { told = told c is_row; row = q ∙ ap sketch_row (next_done (sketch_in h) ts r.known known a said done g (t_twice done d)) }
+      record { told = told c is_row; row = q ∙ ap sketch_row (next_done (sketch_in h) ts r.known known a said done g d) }

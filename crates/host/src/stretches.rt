@@ -1,7 +1,5 @@
-// A row of stretches on the sketch lent, in place.
-//
-// The borrow checker's own proofs don't follow a slice of structs, so what takes one is proved by a
-// walk of its code by hand, and is thin: the work is in functions that take numbers.
+// A row of stretches on the sketch lent, in place. What walks the row is thin: the work is in functions
+// that take numbers.
 ghost use Rattle.std.specs.Prelude.{◌≡◌, true, length};
 ghost use Rattle.find.specs.Finding.{in_range};
 ghost use Rattle.sketch.specs.Sketches.{Sound, add};
@@ -41,7 +39,7 @@ pub fn add_known(row: &mut [u32], lo: u32, hi: u32)
     put_head(row, s, kept.level, kept.count);
 }
 
-// The same, lent as the walk by hand lends it: the whole row, of its own length.
+// The same, lent whole: the row of its own length.
 fn add_one(sketch: &mut [u32; SKETCH], lo: u32, hi: u32)
     requires { Sound (sketch_in sketch.old) × (in_range (sketch_in sketch.old).settings lo hi ≡ true) }
     ensures { sketch.new ≡ sketch_row (add (sketch_in sketch.old) lo hi) }
