@@ -1,6 +1,7 @@
 // The three demands are theorems over the calls' promises: see specs/ and proofs/. A promise that no proof cites could be changed
 // unseen, so each function here ties a public call to the promise that the theorems speak of.
 #![tactic(auto)]
+
 ghost use Rattle.std.specs.Prelude.{◌≡◌, [], ◌∷◌};
 ghost use Rattle.rule.specs.Refusals.{is_answered, of_counted, of_found, of_row};
 ghost use Rattle.find.specs.Finding.{count_on, next_on};
