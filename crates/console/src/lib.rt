@@ -7,12 +7,17 @@
 // A proved loop has to end, and nothing says that the input or the signals do. So such a loop counts
 // its turns down, from a number that no run uses up.
 #![tactic(auto)]
-ghost use Rattle.std.specs.Prelude.{◌≡◌, ◌≤◌, length};
+
+ghost use Rattle.std.specs.Prelude.{◌≡◌, ◌≤◌, length, IfSome};
 ghost use Rattle.evening.specs.Runs.{Sitting};
 ghost use Rattle.console.specs.Serving.{served};
 
 use evening::Evening;
-use libc::{STDIN_FILENO, STDOUT_FILENO};
+use std::io;
+use std::io::{Cursor, ErrorKind, Read, Write};
+
+// How many bytes are read at a time, and how many of answers are kept before they are written.
+const PIECE: usize = 65536;
 
 // The evening after a turn, and whether the run goes on.
 #[derive(Clone, Copy)]
@@ -22,46 +27,79 @@ struct Turn {
 }
 
 // Whether the call that has just answered so was interrupted by a signal, before it moved a byte.
-fn interrupted(got: isize) -> bool {
-    got < 0 && os::errno() == libc::EINTR
+fn interrupted(got: &io::Result<usize>) -> bool {
+    match got {
+        Ok(_) => false,
+        Err(cause) => cause.kind() == ErrorKind::Interrupted,
+    }
 }
 
-// One read. It answers how many bytes it put at the start of the row: 0 at the end of the input, -1
-// where it failed.
-fn read_some(row: &mut [u8]) -> isize {
-    let mut got = libc::read(STDIN_FILENO, row);
+// Says on standard error what failed, and why in the system's words. These are printed with the
+// error's number behind them, which is left out.
+fn fail<E: Eprint>(errors: &E, what: &str, cause: io::Error) {
+    let mut room = Cursor::new([0u8; 128]);
+    let _ = write!(room, "{cause}");
+    let n = room.position() as usize;
+    let text = str::from_utf8(room.get_ref().get(..n).unwrap_or(b"")).unwrap_or("");
+    let words = match text.split_once(" (os error ") {
+        Some((words, _)) => words,
+        None => text,
+    };
+    let _ = eprintln!(errors; "{what}: {words}");
+}
+
+// One read. It answers how many bytes it put at the start of the row: 0 at the end of the input, and
+// nothing where it failed.
+fn read_some<R: Read, E: Eprint>(input: &mut R, errors: &E, row: &mut [u8]) -> Option<usize>
+    ensures { IfSome result (λ n. n ≤ length row.new) }
+{
+    let mut got = input.read(row);
     let mut turns = u64::MAX;
-    while turns > 0 && interrupted(got) {
+    while turns > 0 && interrupted(&got) {
         turns = turns - 1;
-        got = libc::read(STDIN_FILENO, row);
+        got = input.read(row);
     }
-    if got < 0 {
-        os::fail(b"potcount: reading failed");
+    match got {
+        Ok(n) => Some(n),
+        Err(cause) => {
+            fail(errors, "potcount: reading failed", cause);
+            None
+        }
     }
-    got
 }
 
 // One write. It answers how many of the bytes it took: none of them where it failed.
-fn write_some(bytes: &[u8]) -> usize
+fn write_some<W: Write, E: Eprint>(output: &mut W, errors: &E, bytes: &[u8]) -> usize
     ensures { result ≤ length bytes.now }
 {
-    let mut got = libc::write(STDOUT_FILENO, bytes);
+    let mut got = output.write(bytes);
     let mut turns = u64::MAX;
-    while turns > 0 && interrupted(got) {
+    while turns > 0 && interrupted(&got) {
         turns = turns - 1;
-        got = libc::write(STDOUT_FILENO, bytes);
+        got = output.write(bytes);
     }
-    if got <= 0 {
-        os::fail(b"potcount: writing failed");
+    match got {
+        Ok(0) => {
+            fail(
+                errors,
+                "potcount: writing failed",
+                io::Error::from_raw_os_error(0),
+            );
+            0
+        }
+        Ok(n) => n,
+        Err(cause) => {
+            fail(errors, "potcount: writing failed", cause);
+            0
+        }
     }
-    io::count(got, bytes)
 }
 
 // Writes all of the bytes, and answers whether it did.
-fn write_all(bytes: &[u8]) -> bool {
+fn write_all<W: Write, E: Eprint>(output: &mut W, errors: &E, bytes: &[u8]) -> bool {
     let mut done = 0;
     while done < bytes.len() {
-        let some = write_some(&bytes[done..]);
+        let some = write_some(output, errors, &bytes[done..]);
         if some == 0 {
             return false;
         }
@@ -71,7 +109,13 @@ fn write_all(bytes: &[u8]) -> bool {
 }
 
 // Feeds a whole piece. The answers are written each time that the room for them is used up.
-fn serve_piece(evening: Evening, input: &[u8], out: &mut [u8]) -> Turn
+fn serve_piece<W: Write, E: Eprint>(
+    output: &mut W,
+    errors: &E,
+    evening: Evening,
+    input: &[u8],
+    out: &mut [u8],
+) -> Turn
     requires { Sitting evening × (40 ≤ length out.old) }
     ensures { result.evening ≡ served evening input.now result.more }
 {
@@ -80,7 +124,7 @@ fn serve_piece(evening: Evening, input: &[u8], out: &mut [u8]) -> Turn
     while at < input.len() {
         let fed = evening::feed(s, &input[at..], out);
         let written = fed.written;
-        if !write_all(&out[..written]) {
+        if !write_all(output, errors, &out[..written]) {
             return Turn {
                 evening,
                 more: false,
@@ -96,27 +140,30 @@ fn serve_piece(evening: Evening, input: &[u8], out: &mut [u8]) -> Turn
 }
 
 // Answers a last line without a newline.
-fn serve_rest(evening: Evening, out: &mut [u8])
+fn serve_rest<W: Write, E: Eprint>(output: &mut W, errors: &E, evening: Evening, out: &mut [u8])
     requires { Sitting evening × (40 ≤ length out.old) }
 {
     let n = evening::finish(evening, out);
-    write_all(&out[..n]);
+    write_all(output, errors, &out[..n]);
 }
 
 // Reads one piece and serves it, or at the end of the input the rest. Where the read failed there
 // may be more of the line, so that it isn't answered.
-fn serve_some(evening: Evening, out: &mut [u8]) -> Turn
+fn serve_some<R: Read, W: Write, E: Eprint>(
+    input: &mut R,
+    output: &mut W,
+    errors: &E,
+    evening: Evening,
+    out: &mut [u8],
+) -> Turn
     requires { Sitting evening × (40 ≤ length out.old) }
     ensures { Sitting result.evening }
 {
-    let mut input = io::large_buffer();
-    let got = read_some(&mut input);
-    if got > 0 {
-        let n = io::count(got, &input);
-        return serve_piece(evening, &input[..n], out);
-    }
-    if got == 0 {
-        serve_rest(evening, out);
+    let mut piece = [0u8; PIECE];
+    match read_some(input, errors, &mut piece) {
+        Some(0) => serve_rest(output, errors, evening, out),
+        Some(n) => return serve_piece(output, errors, evening, &piece[..n], out),
+        None => {}
     }
     Turn {
         evening,
@@ -125,13 +172,18 @@ fn serve_some(evening: Evening, out: &mut [u8]) -> Turn
 }
 
 // Piece after piece, to the end of the run.
-fn serve_all(out: &mut [u8])
+fn serve_all<R: Read, W: Write, E: Eprint>(
+    input: &mut R,
+    output: &mut W,
+    errors: &E,
+    out: &mut [u8],
+)
     requires { 40 ≤ length out.old }
 {
     let mut s = evening::begin();
     let mut turns = u64::MAX;
     while turns > 0 {
-        let turn = serve_some(s, out);
+        let turn = serve_some(input, output, errors, s, out);
         s = turn.evening;
         if !turn.more {
             return;
@@ -140,8 +192,8 @@ fn serve_all(out: &mut [u8])
     }
 }
 
-// The program: each line of standard input is answered on standard output.
-pub fn serve() {
-    let mut out = io::large_buffer();
-    serve_all(&mut out);
+// The program: each line of the input is answered on the output, and what fails is said on `errors`.
+pub fn serve<R: Read, W: Write, E: Eprint>(input: &mut R, output: &mut W, errors: &E) {
+    let mut out = [0u8; PIECE];
+    serve_all(input, output, errors, &mut out);
 }

@@ -1,12 +1,12 @@
 // The kitchen tests that are not marked (RULES: Kitchen tests): run here, and compared with the stored output. The marked ones are
 // proved, in specs/Table.antt and proofs/Tests.antt.
 #![tactic(auto)]
+
 use find::{Started, Walker, count};
 use rule::Settings;
 use rule::answers::{Answer, Counted, Found, Written};
 use sketch::Sketch;
-
-const OUT: i32 = 1;
+use std::io;
 
 fn q(capacity: u32) -> Settings {
     Settings {
@@ -18,14 +18,12 @@ fn q(capacity: u32) -> Settings {
     }
 }
 
-fn put(what: &[u8], number: u32) {
-    io::write_all(OUT, what);
-    io::print_decimal(OUT, number as u64);
+fn put(rt: &impl Print, what: &str, number: u32) -> io::Result<()> {
+    print!(rt; "{what}{number}")
 }
 
-fn say(what: &[u8], number: u32) {
-    put(what, number);
-    io::write_all(OUT, b"\n");
+fn say(rt: &impl Print, what: &str, number: u32) -> io::Result<()> {
+    println!(rt; "{what}{number}")
 }
 
 // The number of a refusal, 0 where there is none.
@@ -78,19 +76,17 @@ fn started(level: u32) -> u32 {
 }
 
 // One step of a walker that is lent: the cell, and the position after it.
-fn step(walker: Walker) -> Walker {
+fn step(rt: &impl Print, walker: Walker) -> io::Result<Walker> {
     let m = lent::moved_on(walker);
     let answer = m.found;
     match answer {
-        Found::Cell(x) => put(b"  cell ", x),
-        Found::Nothing => {
-            io::write_all(OUT, b"  none");
-        }
-        Found::Refused(number) => put(b"  refused ", number),
+        Found::Cell(x) => put(rt, "  cell ", x)?,
+        Found::Nothing => print!(rt; "  none")?,
+        Found::Refused(number) => put(rt, "  refused ", number)?,
     }
     let after = m.walker;
-    say(b", position ", after.at);
-    after
+    say(rt, ", position ", after.at)?;
+    Ok(after)
 }
 
 fn same(v: Walker, w: Walker) -> bool {
@@ -99,46 +95,64 @@ fn same(v: Walker, w: Walker) -> bool {
 }
 
 // A walker that nothing opened, and what a step leaves of it.
-fn forged(at: u32, hi: u32) {
+fn forged(rt: &impl Print, at: u32, hi: u32) -> io::Result<()> {
     let walker = Walker {
         settings: q(16),
         level: 1,
         at,
         hi,
     };
-    put(b"forged walker under Q, position ", at);
-    say(b", hi ", hi);
-    if same(walker, step(walker)) {
-        io::write_all(OUT, b"  unchanged\n");
+    put(rt, "forged walker under Q, position ", at)?;
+    say(rt, ", hi ", hi)?;
+    let after = step(rt, walker)?;
+    if same(walker, after) {
+        println!(rt; "  unchanged")
     } else {
-        io::write_all(OUT, b"  changed\n");
+        println!(rt; "  changed")
     }
 }
 
-fn walk(mut walker: Walker, mut steps: u32) {
-    while 0 < steps {
-        walker = step(walker);
-        steps = steps - 1;
+fn walk(rt: &impl Print, mut walker: Walker, steps: u32) -> io::Result<()> {
+    for _ in 0..steps {
+        walker = step(rt, walker)?;
     }
+    Ok(())
 }
 
-fn main() {
-    say(b"level 7 under Q, count: ", counted(count(q(16), 7, 1, 10)));
+fn main(rt: HostRuntime) -> io::Result<()> {
     say(
-        b"level 7 under Q, next hit: ",
+        &rt,
+        "level 7 under Q, count: ",
+        counted(count(q(16), 7, 1, 10)),
+    )?;
+    say(
+        &rt,
+        "level 7 under Q, next hit: ",
         found(find::next_hit(q(16), 7, 1)),
-    );
-    say(b"level 7 under Q, walker: ", started(7));
-    say(b"level 6 under Q, count: ", counted(count(q(16), 6, 1, 10)));
-    say(b"capacity 504: ", opened(504));
-    say(b"capacity 505: ", opened(505));
+    )?;
+    say(&rt, "level 7 under Q, walker: ", started(7))?;
+    say(
+        &rt,
+        "level 6 under Q, count: ",
+        counted(count(q(16), 6, 1, 10)),
+    )?;
+    say(&rt, "capacity 504: ", opened(504))?;
+    say(&rt, "capacity 505: ", opened(505))?;
     let mut short = [0u8; 511];
-    say(b"room of 511 for an empty sketch: ", written(&mut short));
+    say(
+        &rt,
+        "room of 511 for an empty sketch: ",
+        written(&mut short),
+    )?;
     let mut enough = [0u8; 512];
-    say(b"room of 512 for an empty sketch: ", written(&mut enough));
-    io::write_all(OUT, b"walker over 1..10 at level 1 under Q:\n");
+    say(
+        &rt,
+        "room of 512 for an empty sketch: ",
+        written(&mut enough),
+    )?;
+    println!(&rt; "walker over 1..10 at level 1 under Q:")?;
     let r = over_all(1);
-    walk(r.walker, 6);
-    forged(0, 10);
-    forged(1, 11);
+    walk(&rt, r.walker, 6)?;
+    forged(&rt, 0, 10)?;
+    forged(&rt, 1, 11)
 }

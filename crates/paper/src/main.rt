@@ -2,12 +2,12 @@
 // cell, and then a short evening on two handhelds, step by step, so that a person with a pencil can follow. docs/KITCHEN.md walks
 // through what this prints.
 #![tactic(auto)]
+
 use rule::Settings;
 use rule::answers::Counted;
 use sketch::Sketch;
 use sketch::estimates::Estimate;
-
-const OUT: i32 = 1;
+use std::io;
 
 // Ten cells, and room for three.
 fn kitchen() -> Settings {
@@ -20,12 +20,12 @@ fn kitchen() -> Settings {
     }
 }
 
-fn text(bytes: &[u8]) {
-    io::write_all(OUT, bytes);
+fn text(rt: &impl Print, what: &str) -> io::Result<()> {
+    print!(rt; "{what}")
 }
 
-fn number(x: u32) {
-    io::print_decimal(OUT, x as u64);
+fn number(rt: &impl Print, x: u32) -> io::Result<()> {
+    print!(rt; "{x}")
 }
 
 // The highest level at which the cell passes; at level 0 every cell does.
@@ -40,30 +40,20 @@ fn highest(settings: Settings, x: u32) -> u32 {
     level
 }
 
-fn print_regions(settings: Settings) {
-    text(b"level region\n");
-    let mut level = 0;
-    while level <= 6 {
-        number(level);
-        text(b" ");
-        number(settings.region(level));
-        text(b"\n");
-        level = level + 1;
+fn print_regions(rt: &impl Print, settings: Settings) -> io::Result<()> {
+    println!(rt; "level region")?;
+    for level in 0..=6 {
+        println!(rt; "{level} {}", settings.region(level))?;
     }
+    Ok(())
 }
 
-fn print_list(settings: Settings) {
-    text(b"cell hash highest level\n");
-    let mut x = 1;
-    while x <= 10 {
-        number(x);
-        text(b" ");
-        io::print_decimal(OUT, settings.hash(x));
-        text(b" ");
-        number(highest(settings, x));
-        text(b"\n");
-        x = x + 1;
+fn print_list(rt: &impl Print, settings: Settings) -> io::Result<()> {
+    println!(rt; "cell hash highest level")?;
+    for x in 1..=10 {
+        println!(rt; "{x} {} {}", settings.hash(x), highest(settings, x))?;
     }
+    Ok(())
 }
 
 // A count of the plain engine: at this level, over lo..hi.
@@ -73,133 +63,112 @@ const LO: u32 = 3;
 
 const HI: u32 = 9;
 
-fn print_asked(settings: Settings) {
-    text(b"plain count of ");
-    number(LO);
-    text(b"..");
-    number(HI);
-    text(b" at level ");
-    number(LEVEL);
-    text(b", region ");
-    number(settings.region(LEVEL));
-    text(b"\ncell hash counts so far\n");
+fn print_asked(rt: &impl Print, settings: Settings) -> io::Result<()> {
+    println!(rt;
+        "plain count of {LO}..{HI} at level {LEVEL}, region {}",
+        settings.region(LEVEL)
+    )?;
+    println!(rt; "cell hash counts so far")
 }
 
 // A cell that it tests: what that counts, and what all have counted so far.
-fn print_step(settings: Settings, x: u32, counts: u32, many: u32) {
-    number(x);
-    text(b" ");
-    io::print_decimal(OUT, settings.hash(x));
-    text(b" ");
-    number(counts);
-    text(b" ");
-    number(many);
-    text(b"\n");
+fn print_step(
+    rt: &impl Print,
+    settings: Settings,
+    x: u32,
+    counts: u32,
+    many: u32,
+) -> io::Result<()> {
+    println!(rt; "{x} {} {counts} {many}", settings.hash(x))
 }
 
 // The engine's own loop, with a line printed for each cell.
-fn print_steps(settings: Settings) {
+fn print_steps(rt: &impl Print, settings: Settings) -> io::Result<()> {
     let mut many: u32 = 0;
     let mut x = LO;
     while x <= HI {
         let counts = plain::counts(settings, LEVEL, x);
         many = many + counts;
-        print_step(settings, x, counts, many);
+        print_step(rt, settings, x, counts, many)?;
         x = x + 1;
     }
+    Ok(())
 }
 
 // What it answers, which is what the last line has come to.
-fn print_counted(settings: Settings) {
+fn print_counted(rt: &impl Print, settings: Settings) -> io::Result<()> {
     match plain::count(settings, LEVEL, LO, HI) {
-        Counted::Count(v) => {
-            text(b"counted ");
-            number(v);
-        }
-        Counted::Refused(_) => text(b"refused"),
+        Counted::Count(v) => println!(rt; "counted {v}"),
+        Counted::Refused(_) => println!(rt; "refused"),
     }
-    text(b"\n");
 }
 
-fn print_cells(cells: &[u32]) {
-    let mut i = 0;
-    while i < cells.len() {
-        text(b" ");
-        number(cells[i]);
-        i = i + 1;
+fn print_cells(rt: &impl Print, cells: &[u32]) -> io::Result<()> {
+    for x in cells {
+        text(rt, " ")?;
+        number(rt, *x)?;
     }
+    Ok(())
 }
 
 // About: the number of cells times p, divided by the region's size; what is left over is let go.
-fn print_about(settings: Settings, level: u32, count: u32) {
-    text(b", about ");
-    number(count);
-    text(b" * ");
-    number(settings.p);
-    text(b" / ");
-    number(settings.region(level));
-    text(b" = ");
-    io::print_decimal(OUT, sketch::stands_at(settings, level, count));
+fn print_about(rt: &impl Print, settings: Settings, level: u32, count: u32) -> io::Result<()> {
+    print!(rt;
+        ", about {count} * {} / {}",
+        settings.p,
+        settings.region(level)
+    )?;
+    print!(rt; " = {}", sketch::stands_at(settings, level, count))
 }
 
-fn print_estimate(k: Sketch) {
+fn print_estimate(rt: &impl Print, k: Sketch) -> io::Result<()> {
     match k.estimate() {
-        Estimate::Exact(v) => {
-            text(b", exactly ");
-            number(v);
-        }
-        Estimate::About(_) => print_about(k.settings, k.level, k.count),
-        Estimate::Refused(_) => text(b", refused"),
+        Estimate::Exact(v) => print!(rt; ", exactly {v}"),
+        Estimate::About(_) => print_about(rt, k.settings, k.level, k.count),
+        Estimate::Refused(_) => text(rt, ", refused"),
     }
 }
 
-fn show(k: Sketch) {
-    text(b"level ");
-    number(k.level);
-    text(b", cells");
+fn show(rt: &impl Print, k: Sketch) -> io::Result<()> {
+    print!(rt; "level {}, cells", k.level)?;
     let cells = k.cells;
     let count = k.count;
     let n = count as usize;
     if n <= 504 {
-        print_cells(&cells[..n]);
+        print_cells(rt, &cells[..n])?;
     }
-    print_estimate(k);
-    text(b"\n");
+    print_estimate(rt, k)?;
+    println!(rt)
 }
 
 // One stretch on a handheld.
-fn sees(name: &[u8], k: Sketch, lo: u32, hi: u32) -> Sketch {
-    text(name);
-    text(b" sees ");
-    number(lo);
-    text(b"..");
-    number(hi);
-    text(b": ");
+fn sees(rt: &impl Print, name: &str, k: Sketch, lo: u32, hi: u32) -> io::Result<Sketch> {
+    print!(rt; "{name} sees {lo}..{hi}: ")?;
     let r = k.add(lo, hi);
-    show(r.sketch);
-    r.sketch
+    show(rt, r.sketch)?;
+    Ok(r.sketch)
 }
 
-fn merges(name: &[u8], j: Sketch, k: Sketch) {
-    text(name);
+fn merges(rt: &impl Print, name: &str, j: Sketch, k: Sketch) -> io::Result<()> {
+    text(rt, name)?;
     let r = j.merge(k);
-    show(r.sketch);
+    show(rt, r.sketch)
 }
 
-fn main() {
+fn main(rt: HostRuntime) -> io::Result<()> {
     let settings = kitchen();
-    print_regions(settings);
-    print_list(settings);
-    print_asked(settings);
-    print_steps(settings);
-    print_counted(settings);
+    print_regions(&rt, settings)?;
+    print_list(&rt, settings)?;
+    print_asked(&rt, settings)?;
+    print_steps(&rt, settings)?;
+    print_counted(&rt, settings)?;
     let opened = Sketch::open(settings);
     let empty = opened.sketch;
-    let a = sees(b"first handheld", empty, 1, 2);
-    let a = sees(b"first handheld", a, 6, 6);
-    let b = sees(b"second handheld", empty, 2, 4);
-    let b = sees(b"second handheld", b, 9, 10);
-    merges(b"first with second: ", a, b);
-    merges(b"second with first: ", b, a);
-    merges(b"first with itself: ", a, a);
+    let a = sees(&rt, "first handheld", empty, 1, 2)?;
+    let a = sees(&rt, "first handheld", a, 6, 6)?;
+    let b = sees(&rt, "second handheld", empty, 2, 4)?;
+    let b = sees(&rt, "second handheld", b, 9, 10)?;
+    merges(&rt, "first with second: ", a, b)?;
+    merges(&rt, "second with first: ", b, a)?;
+    merges(&rt, "first with itself: ", a, a)
 }

@@ -1,5 +1,6 @@
 // The same program on the edges of its rules: overlong and unfinished lines, bytes that are no digits, refusals, and the sketch after each kind of answer.
 #![tactic(auto)]
-fn main() {
-    console::serve();
+
+fn main(rt: HostRuntime) {
+    console::serve(&mut rt.stdin(), &mut rt.stdout(), &rt);
 }

@@ -1,9 +1,10 @@
 // Images that are torn or damaged, and what the reader answers to them.
 ghost use Rattle.std.specs.Prelude.{◌≡◌, ◌+◌, ◌%◌, ◌<◌, ◌≤◌, length};
 
-use crate::words::{number, print_taken, print_yes, text};
+use crate::words::{print_taken, print_yes, text};
 use crate::written;
 use sketch::Sketch;
+use std::io;
 
 fn all_zeros(k: Sketch) -> bool {
     let zero = sketch::no_sketch();
@@ -12,21 +13,19 @@ fn all_zeros(k: Sketch) -> bool {
 }
 
 // What the reader answers to these bytes, and what it hands back.
-fn answer(bytes: &[u8]) {
+fn answer(rt: &impl Print, bytes: &[u8]) -> io::Result<()> {
     let r = image::read(bytes);
     let taken = r.taken;
-    text(b": ");
-    print_taken(taken);
-    text(b"; all zeros handed back: ");
-    print_yes(all_zeros(r.sketch));
-    text(b"\n");
+    text(rt, ": ")?;
+    print_taken(rt, taken)?;
+    text(rt, "; all zeros handed back: ")?;
+    print_yes(rt, all_zeros(r.sketch))?;
+    println!(rt)
 }
 
-fn first_bytes(bytes: &[u8]) {
-    text(b"a full image, its first ");
-    number(bytes.len());
-    text(b" bytes");
-    answer(bytes);
+fn first_bytes(rt: &impl Print, bytes: &[u8]) -> io::Result<()> {
+    print!(rt; "a full image, its first {} bytes", bytes.len())?;
+    answer(rt, bytes)
 }
 
 fn flip(bytes: &mut [u8], at: usize)
@@ -35,33 +34,29 @@ fn flip(bytes: &mut [u8], at: usize)
     bytes[at] = bytes[at] ^ 255;
 }
 
-fn print_place(at: usize) {
-    text(b"byte ");
-    number(at);
-    text(b" (block ");
-    number(at / 512);
-    text(b")");
+fn print_place(rt: &impl Print, at: usize) -> io::Result<()> {
+    print!(rt; "byte {at} (block {})", at / 512)
 }
 
-fn one_flipped(mut full: [u8; 2560], at: usize)
+fn one_flipped(rt: &impl Print, mut full: [u8; 2560], at: usize) -> io::Result<()>
     requires { at < 2560 }
 {
     flip(&mut full, at);
-    print_place(at);
-    text(b" flipped");
-    answer(&full);
+    print_place(rt, at)?;
+    text(rt, " flipped")?;
+    answer(rt, &full)
 }
 
-fn two_flipped(mut full: [u8; 2560], at: usize, then: usize)
+fn two_flipped(rt: &impl Print, mut full: [u8; 2560], at: usize, then: usize) -> io::Result<()>
     requires { (at < 2560) × (then < 2560) }
 {
     flip(&mut full, at);
     flip(&mut full, then);
-    print_place(at);
-    text(b" and ");
-    print_place(then);
-    text(b" flipped");
-    answer(&full);
+    print_place(rt, at)?;
+    text(rt, " and ")?;
+    print_place(rt, then)?;
+    text(rt, " flipped")?;
+    answer(rt, &full)
 }
 
 // The word at `at` says x, and the check of its block is right again.
@@ -74,25 +69,39 @@ fn reseal(bytes: &mut [u8], at: usize, x: u32)
     block::seal(&mut bytes[start..end]);
 }
 
-fn one_changed(what: &[u8], mut full: [u8; 2560], at: usize, x: u32)
+fn one_changed(
+    rt: &impl Print,
+    what: &str,
+    mut full: [u8; 2560],
+    at: usize,
+    x: u32,
+) -> io::Result<()>
     requires { (at + 2 ≤ 2560) × (x < 65536) }
 {
     reseal(&mut full, at, x);
-    text(what);
-    answer(&full);
+    text(rt, what)?;
+    answer(rt, &full)
 }
 
-fn two_changed(what: &[u8], mut full: [u8; 2560], at: usize, x: u32, then: usize, y: u32)
+fn two_changed(
+    rt: &impl Print,
+    what: &str,
+    mut full: [u8; 2560],
+    at: usize,
+    x: u32,
+    then: usize,
+    y: u32,
+) -> io::Result<()>
     requires { (at + 2 ≤ 2560) × (x < 65536) × (then + 2 ≤ 2560) × (y < 65536) }
 {
     reseal(&mut full, at, x);
     reseal(&mut full, then, y);
-    text(what);
-    answer(&full);
+    text(rt, what)?;
+    answer(rt, &full)
 }
 
 // 127 cells as 125 and 2, not as 126 and 1: cell 126 goes from block 1 to block 2.
-pub fn read_not_full() {
+pub fn read_not_full(rt: &impl Print) -> io::Result<()> {
     let mut room = [0u8; 1536];
     written(seen::up_to(127), &mut room);
     reseal(&mut room, 514, 125);
@@ -100,8 +109,8 @@ pub fn read_not_full() {
     reseal(&mut room, 1026, 2);
     reseal(&mut room, 1028, 126);
     reseal(&mut room, 1032, 127);
-    text(b"127 cells, 125 in block 1 and 2 in block 2");
-    answer(&room);
+    text(rt, "127 cells, 125 in block 1 and 2 in block 2")?;
+    answer(rt, &room)
 }
 
 // A full image: five blocks.
@@ -113,69 +122,78 @@ pub fn full_image() -> [u8; 2560] {
 
 // Lengths: 0, no multiple of 512, a block missing, whole, a block too many. In the last one the sixth block's check is wrong
 // too, but the length is looked at first.
-pub fn read_torn() {
+pub fn read_torn(rt: &impl Print) -> io::Result<()> {
     let mut room = [165u8; 3072];
     written(seen::up_to(504), &mut room);
-    first_bytes(&room[0..0]);
-    first_bytes(&room[0..511]);
-    first_bytes(&room[0..513]);
-    first_bytes(&room[0..2048]);
-    first_bytes(&room[0..2560]);
-    first_bytes(&room[0..3072]);
+    first_bytes(rt, &room[0..0])?;
+    first_bytes(rt, &room[0..511])?;
+    first_bytes(rt, &room[0..513])?;
+    first_bytes(rt, &room[0..2048])?;
+    first_bytes(rt, &room[0..2560])?;
+    first_bytes(rt, &room[0..3072])
 }
 
 // Wrong checks: in each block in turn, then in two.
-pub fn read_flipped(full: [u8; 2560]) {
-    one_flipped(full, 0);
-    one_flipped(full, 600);
-    one_flipped(full, 1535);
-    one_flipped(full, 1536);
-    one_flipped(full, 2559);
-    two_flipped(full, 600, 1600);
-    two_flipped(full, 2100, 30);
+pub fn read_flipped(rt: &impl Print, full: [u8; 2560]) -> io::Result<()> {
+    one_flipped(rt, full, 0)?;
+    one_flipped(rt, full, 600)?;
+    one_flipped(rt, full, 1535)?;
+    one_flipped(rt, full, 1536)?;
+    one_flipped(rt, full, 2559)?;
+    two_flipped(rt, full, 600, 1600)?;
+    two_flipped(rt, full, 2100, 30)
 }
 
 // Right checks, and something else that is wrong. A full image: n 200000, p 2000003, 504 cells at level 0.
-pub fn read_changed(full: [u8; 2560]) {
-    one_changed(b"the mark is POT2", full, 2, 12884);
-    one_changed(b"n is 200001, and p below 10n", full, 4, 3393);
-    one_changed(b"the capacity is 505", full, 20, 505);
-    one_changed(b"the capacity is 503", full, 20, 503);
-    one_changed(b"the level is 1, where not all cells pass", full, 22, 1);
-    one_changed(b"the level is 21, above the top", full, 22, 21);
-    one_changed(b"the number of cells is 503", full, 24, 503);
-    one_changed(b"the number of cells is 378, one block less", full, 24, 378);
-    one_changed(b"byte 26 is 1", full, 26, 1);
-    one_changed(b"block 2 says it is block 3", full, 1024, 3);
-    one_changed(b"block 1 says it holds 125 cells", full, 514, 125);
-    one_changed(b"the second cell is 1 again", full, 520, 1);
-    one_changed(b"the last cell is above n", full, 2554, 4);
+pub fn read_changed(rt: &impl Print, full: [u8; 2560]) -> io::Result<()> {
+    one_changed(rt, "the mark is POT2", full, 2, 12884)?;
+    one_changed(rt, "n is 200001, and p below 10n", full, 4, 3393)?;
+    one_changed(rt, "the capacity is 505", full, 20, 505)?;
+    one_changed(rt, "the capacity is 503", full, 20, 503)?;
+    one_changed(rt, "the level is 1, where not all cells pass", full, 22, 1)?;
+    one_changed(rt, "the level is 21, above the top", full, 22, 21)?;
+    one_changed(rt, "the number of cells is 503", full, 24, 503)?;
+    one_changed(
+        rt,
+        "the number of cells is 378, one block less",
+        full,
+        24,
+        378,
+    )?;
+    one_changed(rt, "byte 26 is 1", full, 26, 1)?;
+    one_changed(rt, "block 2 says it is block 3", full, 1024, 3)?;
+    one_changed(rt, "block 1 says it holds 125 cells", full, 514, 125)?;
+    one_changed(rt, "the second cell is 1 again", full, 520, 1)?;
+    one_changed(rt, "the last cell is above n", full, 2554, 4)
 }
 
 // Right checks again: a cell past the last one, and which of two faults is named.
-pub fn read_changed_twice(full: [u8; 2560]) {
+pub fn read_changed_twice(rt: &impl Print, full: [u8; 2560]) -> io::Result<()> {
     two_changed(
-        b"503 cells, and the last one is left over",
+        rt,
+        "503 cells, and the last one is left over",
         full,
         24,
         503,
         2050,
         125,
-    );
+    )?;
     two_changed(
-        b"the mark is POT2, and the capacity is 505",
+        rt,
+        "the mark is POT2, and the capacity is 505",
         full,
         2,
         12884,
         20,
         505,
-    );
+    )?;
     two_changed(
-        b"the capacity is 505, and block 1 says it holds 125 cells",
+        rt,
+        "the capacity is 505, and block 1 says it holds 125 cells",
         full,
         20,
         505,
         514,
         125,
-    );
+    )
 }

@@ -1,7 +1,9 @@
 // Writes images and reads them back, then reads torn and damaged ones. Each line says what was answered.
 #![tactic(auto)]
+
 use rule::answers::Written;
 use sketch::Sketch;
+use std::io;
 
 mod damaged;
 mod words;
@@ -39,75 +41,70 @@ fn all_are(x: u8, bytes: &[u8]) -> bool {
     all
 }
 
-fn compare_numbers(what: &[u8], x: u32, y: u32) {
-    text(what);
-    number(y as usize);
-    text(b": ");
-    print_yes(x == y);
+fn compare_numbers(rt: &impl Print, what: &str, x: u32, y: u32) -> io::Result<()> {
+    text(rt, what)?;
+    number(rt, y as usize)?;
+    text(rt, ": ")?;
+    print_yes(rt, x == y)
 }
 
 // The sketch that was written, and the one that was read.
-fn compare(j: Sketch, k: Sketch) {
-    text(b"; same settings: ");
-    print_yes(sketch::order::same_settings(j.settings, k.settings));
-    compare_numbers(b"; same level, ", j.level, k.level);
-    compare_numbers(b"; same number of cells, ", j.count, k.count);
-    text(b"; same cells: ");
-    print_yes(same_row(&j.cells, &k.cells));
-    text(b"\n");
+fn compare(rt: &impl Print, j: Sketch, k: Sketch) -> io::Result<()> {
+    text(rt, "; same settings: ")?;
+    print_yes(rt, sketch::order::same_settings(j.settings, k.settings))?;
+    compare_numbers(rt, "; same level, ", j.level, k.level)?;
+    compare_numbers(rt, "; same number of cells, ", j.count, k.count)?;
+    text(rt, "; same cells: ")?;
+    print_yes(rt, same_row(&j.cells, &k.cells))?;
+    println!(rt)
 }
 
-fn print_sizes(cells: usize, bytes: usize) {
-    text(b"cells seen: ");
-    number(cells);
-    text(b"; image: ");
-    number(bytes);
-    text(b" bytes");
+fn print_sizes(rt: &impl Print, cells: usize, bytes: usize) -> io::Result<()> {
+    print!(rt; "cells seen: {cells}; image: {bytes} bytes")
 }
 
 // What follows the image in a room of bytes 165.
-fn print_rest(rest: &[u8]) {
-    text(b"; the ");
-    number(rest.len());
-    text(b" bytes after it untouched: ");
-    print_yes(all_are(165, rest));
+fn print_rest(rt: &impl Print, rest: &[u8]) -> io::Result<()> {
+    print!(rt; "; the {} bytes after it untouched: ", rest.len())?;
+    print_yes(rt, all_are(165, rest))
 }
 
-fn print_read(k: Sketch, bytes: &[u8]) {
+fn print_read(rt: &impl Print, k: Sketch, bytes: &[u8]) -> io::Result<()> {
     let r = image::read(bytes);
     let taken = r.taken;
-    text(b"; read back: ");
-    print_taken(taken);
-    compare(k, r.sketch);
+    text(rt, "; read back: ")?;
+    print_taken(rt, taken)?;
+    compare(rt, k, r.sketch)
 }
 
 // Writes an image and reads it back.
-fn back(last: u32) {
+fn back(rt: &impl Print, last: u32) -> io::Result<()> {
     let k = seen::up_to(last);
     let mut room = [165u8; 2560];
     let n = written(k, &mut room);
-    print_sizes(last as usize, n);
+    print_sizes(rt, last as usize, n)?;
     if n <= 2560 {
-        print_rest(&room[n..2560]);
-        print_read(k, &room[0..n]);
+        print_rest(rt, &room[n..2560])?;
+        print_read(rt, k, &room[0..n])?;
     }
+    Ok(())
 }
 
-fn read_back() {
-    back(0);
-    back(1);
-    back(126);
-    back(127);
-    back(504);
-    back(200000);
+fn read_back(rt: &impl Print) -> io::Result<()> {
+    back(rt, 0)?;
+    back(rt, 1)?;
+    back(rt, 126)?;
+    back(rt, 127)?;
+    back(rt, 504)?;
+    back(rt, 200000)
 }
 
-fn main() {
-    read_back();
-    damaged::read_torn();
+fn main(rt: HostRuntime) -> io::Result<()> {
+    read_back(&rt)?;
+    damaged::read_torn(&rt)?;
     let full = damaged::full_image();
-    damaged::read_flipped(full);
-    damaged::read_changed(full);
-    damaged::read_changed_twice(full);
-    damaged::read_not_full();
+    damaged::read_flipped(&rt, full)?;
+    damaged::read_changed(&rt, full)?;
+    damaged::read_changed_twice(&rt, full)?;
+    damaged::read_not_full(&rt)
 }

@@ -1,32 +1,22 @@
 // What the program says.
 use rule::answers::Taken;
+use std::io;
 
-const OUT: i32 = 1;
-
-pub fn text(bytes: &[u8]) {
-    io::write_all(OUT, bytes);
+pub fn text(rt: &impl Print, what: &str) -> io::Result<()> {
+    print!(rt; "{what}")
 }
 
-pub fn number(x: usize) {
-    io::print_decimal(OUT, x as u64);
+pub fn number(rt: &impl Print, x: usize) -> io::Result<()> {
+    print!(rt; "{x}")
 }
 
-pub fn print_yes(yes: bool) {
-    if yes {
-        text(b"yes");
-    } else {
-        text(b"no");
-    }
+pub fn print_yes(rt: &impl Print, yes: bool) -> io::Result<()> {
+    if yes { text(rt, "yes") } else { text(rt, "no") }
 }
 
-pub fn print_taken(taken: Taken) {
+pub fn print_taken(rt: &impl Print, taken: Taken) -> io::Result<()> {
     match taken {
-        Taken::Done => text(b"accepted"),
-        Taken::Refused { number: n, place } => {
-            text(b"refused ");
-            number(n as usize);
-            text(b", block ");
-            number(place as usize);
-        }
+        Taken::Done => text(rt, "accepted"),
+        Taken::Refused { number, place } => print!(rt; "refused {number}, block {place}"),
     }
 }

@@ -1,0 +1,8 @@
+-- The level goes down by one.
+use Rattle.paper.proofs.highest.Given as goal
+
+abbrev pub invariant-loop-level : goal.invariant-loop-level
+invariant-loop-level g l = Unit {0}
+
+abbrev pub decreases-loop-level : goal.decreases-loop-level
+decreases-loop-level g l = l.level
