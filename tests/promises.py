@@ -32,7 +32,6 @@ for crate, module, name in re.findall(r"`(?:([a-z_]+)/)([A-Z][A-Za-z0-9]*)\.([^`
         faults.append(f"no such name: {crate}/{module}.{name}")
 
 
-
 def calls(crate, mark):
     """Each call of the boundary with its parameters, its result and its promise, however they are laid out."""
     text = (root / f"crates/{crate}/src/lib.rt").read_text()
