@@ -1,5 +1,6 @@
 // The distances from a hit to the next: of the passing cells of a range only the first is searched for.
 #![tactic(auto)]
+
 ghost use Rattle.std.specs.Prelude.{◌≡◌, ◌^◌, ◌<◌, ◌≤◌};
 ghost use Rattle.rule.specs.Rule.{Good};
 ghost use Rattle.strides.specs.Striding.{Shortest, Striding, IsHit, Next};

@@ -3,7 +3,6 @@ use mathlib.Core.Path.{ap₂}
 use mathlib.Core.Bool.{◌&&◌}
 use lib.Dec.{eqb}
 use Rattle.block.specs.Sums.{block_good}
-use borrow.Author.Rules.{rules}
 use Rattle.block.proofs.good.Goals as goal
 
 pub returns : goal.returns

@@ -2,7 +2,6 @@
 use native.Mathlib.Omega.{arith}
 use lib.ListN.{length-set}
 use Rattle.block.proofs.Numbers.{word-stored}
-use borrow.Author.Rules.{rules}
 use Rattle.block.proofs.put_word.Goals as goal
 
 pub bounds-s-at-2 : goal.bounds-s-at-2

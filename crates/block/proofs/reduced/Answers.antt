@@ -3,7 +3,6 @@ use mathlib.Core.Path.{◌≡◌, ap, ◌∙◌}
 use native.Mathlib.Omega.{arith}
 use Rattle.block.specs.Folds.{folded}
 use Rattle.block.proofs.Folds.{twice_small, twice_left, twice_rest}
-use borrow.Author.Rules.{rules}
 use Rattle.block.proofs.reduced.Goals as goal
 use Rattle.block.proofs.reduced.Goals.{After-folded-twice}
 

@@ -1,10 +1,9 @@
 -- `sums_of` meets its contract: after i turns both sums are those of the first i words, and small enough to fit. Assumes nothing.
-use Prim.Native.Nat.{◌*◌, ◌-◌, ◌≤◌}
+use Prim.Native.Nat.{◌*◌, ◌≤◌}
 use mathlib.Core.Path.{◌≡◌, ◌∙◌}
 use native.Mathlib.Omega.{arith}
-use Rattle.block.specs.Sums.{Falls, word, sum_to, plain_of, weighted_of}
+use Rattle.block.specs.Sums.{plain_of, weighted_of}
 use Rattle.block.proofs.Totals.{sum_none, plain_on, weighted_on, weight-small}
-use borrow.Author.Rules.{rules}
 use Rattle.block.proofs.sums_of.Goals as goal
 
 -- a word with its weight

@@ -1,7 +1,6 @@
 -- `word_at` meets its contract: a word by its two bytes. Assumes nothing.
 use native.Mathlib.Omega.{arith}
 use Rattle.block.proofs.Numbers.{number_two}
-use borrow.Author.Rules.{rules}
 use Rattle.block.proofs.word_at.Goals as goal
 
 pub returns : goal.returns

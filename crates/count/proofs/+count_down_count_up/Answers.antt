@@ -1,10 +1,8 @@
 -- The proof of the cycle of calls {count_down, count_up}. Each one's measure is its difference d: each call is on modulus d, with a difference of at most
 -- half of d.
 -- Assumes nothing.
-use borrow.Author.Rules.{rules}
 use mathlib.Core.Path.{sym, ap, subst, ◌∙◌}
-use mathlib.Core.Logic.{⊎_elim}
-use Prim.Native.Nat.{ℕ, ◌-◌, ◌/◌, ◌%◌, ◌<◌, ◌≤◌}
+use Prim.Native.Nat.{ℕ, ◌-◌, ◌/◌, ◌%◌, ◌≤◌}
 use native.Mathlib.Nat.{mod-lt}
 use native.Mathlib.Omega.{arith}
 use Rattle.count.specs.Hits.{hits_up, hits_down}
@@ -40,7 +38,7 @@ count_down_adds t c =
     (sym (turned a.m a.d a.u a.n a.l e.result (omega arith) (omega arith) e.ensures))
     (counted r _
     (elim c.if-k-c.branch [
-        count_down-then-k-c w ↦ low-none r _ w.if-k-c.true w.low-is
+      | count_down-then-k-c w ↦ low-none r _ w.if-k-c.true w.low-is
       | count_down-else-k-c+then-c w ↦ low_down r _ w.if-c.true (w.low-is ∙ w.count_down.ensures)
       | count_down-else-k-c+else-c w ↦ low_up r _ w.if-c.false (w.low-is ∙ w.count_up.ensures)
     ]))
@@ -99,7 +97,7 @@ count_up_adds t c =
     let r = count_up_reached t c.before.before in
     counted r _
     (elim c.if-k-c.branch [
-        count_up-then-k-c w ↦ low-none r _ w.if-k-c.true w.low-is
+      | count_up-then-k-c w ↦ low-none r _ w.if-k-c.true w.low-is
       | count_up-else-k-c+then-c w ↦ low_down r _ w.if-c.true (w.low-is ∙ w.count_down.ensures)
       | count_up-else-k-c+else-c w ↦ low_up r _ w.if-c.false (w.low-is ∙ w.count_up.ensures)
     ])

@@ -6,7 +6,6 @@ use native.Mathlib.Omega.{arith}
 use borrow.Author.Tests.{leb-true, leb-false}
 use Rattle.count.proofs.Folds.{halves}
 use Rattle.count.proofs.Steps.{wide}
-use borrow.Author.Rules.{rules}
 use Rattle.count.proofs.cut.Goals as goal
 
 pub overflow_sub-down : goal.overflow_sub-down

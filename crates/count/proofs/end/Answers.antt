@@ -1,5 +1,4 @@
 -- `count::end` meets its contract: the product fits. Assumes nothing.
-use borrow.Author.Rules.{rules}
 use native.Mathlib.Omega.{arith}
 use Prim.Native.Nat.{◌-◌}
 use Rattle.count.proofs.Steps.{wide}

@@ -1,5 +1,4 @@
 -- `count::part` meets its contract, by the cases of its branch. Assumes nothing.
-use borrow.Author.Rules.{rules}
 use native.Mathlib.Omega.{arith}
 use Rattle.count.proofs.Laws.{hit-min}
 use Rattle.count.proofs.part.Goals as goal

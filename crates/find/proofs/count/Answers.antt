@@ -5,7 +5,6 @@ use Prim.Native.Nat.{ℕ}
 use Rattle.rule.specs.Refusals.{answered}
 use Rattle.find.specs.Finding.{count_on}
 use Rattle.find.proofs.Checks.{refused-so, answered-so, all_held, within-range}
-use borrow.Author.Rules.{rules}
 use Rattle.find.proofs.count.Goals as goal
 
 pub returns-then-number-ne0 : goal.returns-then-number-ne0

@@ -1,10 +1,8 @@
 -- `find::count_in` meets its contract: at level 0 all cells pass, and else the count is that of the hashes' progression. Assumes nothing.
 use mathlib.Core.Path.{◌≡◌, ◌∙◌}
-use mathlib.Core.Logic.{⊎_elim}
 use native.Mathlib.Omega.{arith}
 use Rattle.rule.specs.Samples.{range_count}
 use Rattle.find.proofs.Counting.{count_all, count_takes, count_up_is, count_down_is, count_few}
-use borrow.Author.Rules.{rules}
 use Rattle.find.proofs.count_in.Goals as goal
 use Rattle.find.proofs.count_in.Goals.{then-h, else-h}
 

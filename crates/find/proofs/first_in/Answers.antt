@@ -7,7 +7,6 @@ use native.Mathlib.Omega.{arith}
 use Rattle.rule.specs.Refusals.{answered}
 use Rattle.find.specs.Finding.{hits}
 use Rattle.find.proofs.Hits.{first_cell, next_takes, found_at, found_nothing, hit-within}
-use borrow.Author.Rules.{rules}
 use Rattle.find.proofs.first_in.Goals as goal
 
 pub returns-then-level-lo : goal.returns-then-level-lo

@@ -1,7 +1,5 @@
 -- `find::first_refusal` meets its contract. Assumes nothing.
 use Rattle.find.proofs.Checks.{denied, granted, settings-first, level_second, range_third, none_left}
-use borrow.Author.Rules.{rules}
-use borrow.Author.Tests.{not-true, not-false}
 use Rattle.find.proofs.first_refusal.Goals as goal
 
 pub returns-then-not-good : goal.returns-then-not-good

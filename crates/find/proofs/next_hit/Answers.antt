@@ -2,7 +2,6 @@
 use mathlib.Core.Path.{◌∙◌}
 use Rattle.find.specs.Finding.{next_on}
 use Rattle.find.proofs.Checks.{refused-so, answered-so, all_held, within_cell}
-use borrow.Author.Rules.{rules}
 use Rattle.find.proofs.next_hit.Goals as goal
 
 pub returns-then-number-ne0 : goal.returns-then-number-ne0

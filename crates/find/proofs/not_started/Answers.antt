@@ -1,6 +1,5 @@
 -- `find::not_started` meets its contract: the zero settings are `no_settings`'s. Assumes nothing.
 use mathlib.Core.Path.{refl, ap}
-use borrow.Author.Rules.{rules}
 use Rattle.rule.specs.declared.Settings.{Settings}
 use Rattle.find.specs.Walking.{walker_at}
 use Rattle.find.proofs.not_started.Goals as goal

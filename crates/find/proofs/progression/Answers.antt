@@ -1,6 +1,5 @@
 -- `find::progression` meets its contract. Assumes nothing.
 use native.Mathlib.Omega.{arith}
-use borrow.Author.Rules.{rules}
 use Rattle.find.proofs.progression.Goals as goal
 
 pub returns : goal.returns

@@ -4,7 +4,6 @@ use native.Mathlib.Omega.{arith}
 use lib.ListN.{get_or}
 use Rattle.line.specs.Reading.{asked}
 use Rattle.line.proofs.Shapes.{command_row, command_empty, command_long}
-use borrow.Author.Rules.{rules}
 use Rattle.line.proofs.command.Goals as goal
 
 pub returns-then-line-eq0 : goal.returns-then-line-eq0

@@ -1,6 +1,5 @@
 -- `line::end_word` meets its contract. Assumes nothing.
 use borrow.Author.Tests.{lt-ltb, le-ltb}
-use borrow.Author.Rules.{rules}
 use Rattle.line.proofs.end_word.Goals as goal
 
 pub returns-then-at-i : goal.returns-then-at-i

@@ -1,11 +1,9 @@
 -- `line::number_at` meets its contract: what the walk has still to give is what the whole walk gives. Assumes nothing.
-use borrow.Author.Rules.{rules}
 use Prim.Native.Nat.{◌≤◌, ◌<◌, ◌+◌, ◌*◌, ◌-◌}
 use mathlib.Core.Path.{◌≡◌, sym, ◌∙◌}
 use native.Mathlib.Omega.{arith}
 use lib.ListN.{length, drop, get_or}
-use Rattle.line.specs.Reading.{word_at, first_word}
-use Rattle.line.proofs.Words.{reads, reads_word, reads_end, reads_space, reads_stop, reads_large, reads_on, digit_low}
+use Rattle.line.proofs.Words.{reads_word, reads_end, reads_space, reads_stop, reads_large, reads_on, digit_low}
 use Rattle.line.proofs.number_at.Goals as goal
 
 pub loop-i-init : goal.loop-i-init

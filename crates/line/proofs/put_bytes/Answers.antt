@@ -1,9 +1,9 @@
 -- `line::put_bytes` meets its contract: the bytes so far are stored. Assumes nothing.
 use borrow.Author.Rules.{rules}
-use Prim.Native.Nat.{◌≤◌, ◌+◌, ◌-◌}
+use Prim.Native.Nat.{◌+◌}
 use mathlib.Core.Path.{◌≡◌, sym, ap, ◌∙◌}
 use native.Mathlib.Omega.{arith}
-use lib.ListN.{length, take, get_or, set, length-set}
+use lib.ListN.{length, get_or, set, length-set}
 use lib.Seq.{take_all}
 use Rattle.lists.specs.Rows.{placed}
 use Rattle.lists.proofs.Places.{placed-none}

@@ -1,13 +1,8 @@
 -- `line::put_bytes` meets its contract: the bytes so far are stored. Assumes nothing.
-use borrow.Author.Rules.{rules}
-use Prim.Native.Nat.{◌≤◌, ◌+◌, ◌-◌}
-use mathlib.Core.Path.{◌≡◌, sym, ap, ◌∙◌}
-use native.Mathlib.Omega.{arith}
-use lib.ListN.{length, take, get_or, set, length-set}
-use lib.Seq.{take_all}
+use Prim.Native.Nat.{◌≤◌, ◌-◌}
+use mathlib.Core.Path.{◌≡◌}
+use lib.ListN.{length, take}
 use Rattle.lists.specs.Rows.{placed}
-use Rattle.lists.proofs.Places.{placed-none}
-use Rattle.line.proofs.Stores.{copied_more}
 use Rattle.line.proofs.put_bytes.Given as goal
 
 abbrev pub invariant-loop-i : goal.invariant-loop-i

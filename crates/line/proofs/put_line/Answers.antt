@@ -2,7 +2,6 @@
 use native.Mathlib.Omega.{arith}
 use Rattle.lists.proofs.Stores.{stored_then}
 use Rattle.line.proofs.Decimals.{decimal-length}
-use borrow.Author.Rules.{rules}
 use Rattle.line.proofs.put_line.Goals as goal
 
 pub put_bytes-requires : goal.put_bytes-requires

@@ -1,14 +1,10 @@
 -- `line::put_number` meets its contract: with the digits that are left, the whole number is stored. Assumes nothing.
-use borrow.Author.Rules.{rules}
 use Prim.Native.Nat.{◌≤◌, ◌+◌, ◌-◌}
-use mathlib.Core.Path.{◌≡◌, sym, ap, ◌∙◌}
-use native.Mathlib.Omega.{arith}
-use lib.ListN.{length, length-set}
+use mathlib.Core.Path.{◌≡◌}
+use lib.ListN.{length}
 use Rattle.lists.specs.Rows.{placed}
-use Rattle.lists.proofs.Places.{placed-none}
 use Rattle.line.specs.Texts.{decimal}
-use Rattle.line.proofs.Decimals.{last_digits, decimal-length, decimal-last}
-use Rattle.line.proofs.Stores.{digit-stored}
+use Rattle.line.proofs.Decimals.{last_digits}
 use Rattle.line.proofs.put_number.Given as goal
 
 abbrev pub invariant-loop-i : goal.invariant-loop-i

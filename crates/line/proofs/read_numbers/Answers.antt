@@ -1,10 +1,7 @@
 -- `line::read_numbers` meets its contract: the numbers read so far are in the row. Assumes nothing.
-use borrow.Author.Rules.{rules}
-use Prim.Native.Nat.{◌-◌}
 use mathlib.Core.Path.{sym, ◌∙◌}
 use native.Mathlib.Omega.{arith}
-use lib.ListN.{length}
-use Rattle.line.proofs.Shapes.{Gathered, gathered_none, gathered_more, gathered_end, row_apart, row_full, row_bad}
+use Rattle.line.proofs.Shapes.{gathered_none, gathered_more, gathered_end, row_apart, row_full, row_bad}
 use Rattle.line.proofs.read_numbers.Goals as goal
 
 pub loop-i-init : goal.loop-i-init

@@ -1,5 +1,4 @@
 -- `line::shape` meets its contract: a test for each shape. Assumes nothing.
-use borrow.Author.Rules.{rules}
 use Rattle.line.specs.Reading.{asked}
 use Rattle.line.proofs.shape.Goals as goal
 

@@ -1,7 +1,7 @@
 -- `line::width` meets its contract: digits are counted from the last on. Assumes nothing.
 use borrow.Author.Rules.{rules}
 use native.Mathlib.Omega.{arith}
-use Rattle.line.proofs.Decimals.{Left, left_all, left_step, left_one}
+use Rattle.line.proofs.Decimals.{left_all, left_step, left_one}
 use Rattle.line.proofs.width.Goals as goal
 
 pub loop-y-init : goal.loop-y-init

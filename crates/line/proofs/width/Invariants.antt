@@ -1,7 +1,5 @@
 -- `line::width` meets its contract: digits are counted from the last on. Assumes nothing.
-use borrow.Author.Rules.{rules}
-use native.Mathlib.Omega.{arith}
-use Rattle.line.proofs.Decimals.{Left, left_all, left_step, left_one}
+use Rattle.line.proofs.Decimals.{Left}
 use Rattle.line.proofs.width.Given as goal
 
 abbrev pub invariant-loop-y : goal.invariant-loop-y

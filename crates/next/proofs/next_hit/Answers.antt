@@ -1,5 +1,4 @@
 -- `next::next_hit` meets its contract, by what `search` found. Assumes nothing.
-use borrow.Author.Rules.{rules}
 use Prim.Native.Nat.{◌/◌, ◌%◌}
 use native.Mathlib.Omega.{arith}
 use Rattle.next.proofs.Steps.{answer-found, answer-none, answer_later, answer_empty, answer-zero, answer_here}

@@ -1,9 +1,7 @@
 -- `rows::all_pass` meets its contract. Assumes nothing.
-use Prim.Native.Nat.{◌-◌, ◌≤◌}
-use mathlib.Core.Path.{◌≡◌, refl}
-use mathlib.Core.Bool.{◌&&◌}
+use mathlib.Core.Path.{refl}
 use native.Mathlib.Omega.{arith}
-use lib.ListN.{length, drop, get_or}
+use lib.ListN.{get_or}
 use Rattle.rule.specs.Rule.{passes}
 use Rattle.rows.specs.Walked.{all_in}
 use Rattle.rows.proofs.Walks.{same_settings_lem, hasher_ready, passes_test, test_on, test_end}

@@ -1,12 +1,10 @@
 -- `rows::all_pass` meets its contract. Assumes nothing.
 use Prim.Native.Nat.{◌-◌, ◌≤◌}
-use mathlib.Core.Path.{◌≡◌, refl}
+use mathlib.Core.Path.{◌≡◌}
 use mathlib.Core.Bool.{◌&&◌}
-use native.Mathlib.Omega.{arith}
-use lib.ListN.{length, drop, get_or}
+use lib.ListN.{length, drop}
 use Rattle.rule.specs.Rule.{passes}
 use Rattle.rows.specs.Walked.{all_in}
-use Rattle.rows.proofs.Walks.{same_settings_lem, hasher_ready, passes_test, test_on, test_end}
 use Rattle.rows.proofs.all_pass.Given as goal
 
 abbrev pub invariant-loop-i : goal.invariant-loop-i

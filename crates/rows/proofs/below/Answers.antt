@@ -1,8 +1,8 @@
 -- `rows::below` meets its contract. Assumes nothing.
-use Prim.Native.Nat.{◌+◌, ◌-◌, ◌/◌}
+use Prim.Native.Nat.{◌+◌, ◌/◌}
 use mathlib.Core.Path.{◌≡◌}
 use native.Mathlib.Omega.{arith}
-use Rattle.rows.proofs.Walks.{Parted, parted_start, parted_up, parted_down, parted_end}
+use Rattle.rows.proofs.Walks.{parted_start, parted_up, parted_down, parted_end}
 use Rattle.rows.proofs.below.Goals as goal
 
 pub loop-lo-init : goal.loop-lo-init

@@ -1,8 +1,6 @@
 -- `rows::below` meets its contract. Assumes nothing.
-use Prim.Native.Nat.{◌+◌, ◌-◌, ◌/◌}
-use mathlib.Core.Path.{◌≡◌}
-use native.Mathlib.Omega.{arith}
-use Rattle.rows.proofs.Walks.{Parted, parted_start, parted_up, parted_down, parted_end}
+use Prim.Native.Nat.{◌-◌}
+use Rattle.rows.proofs.Walks.{Parted}
 use Rattle.rows.proofs.below.Given as goal
 
 abbrev pub invariant-loop-lo : goal.invariant-loop-lo

@@ -1,10 +1,9 @@
 -- `rows::count_passing` meets its contract. Assumes nothing.
-use Prim.Native.Nat.{◌-◌, ◌<◌, ◌≤◌}
-use mathlib.Core.Path.{◌≡◌, refl}
+use Prim.Native.Nat.{◌<◌, ◌≤◌}
+use mathlib.Core.Path.{refl}
 use native.Mathlib.Omega.{arith}
-use lib.ListN.{length, take}
+use lib.ListN.{length}
 use lib.Seq.{take_all}
-use Rattle.lists.specs.Lists.{filter}
 use Rattle.lists.proofs.Steps.{filter_on, filter_off, length_more}
 use Rattle.rule.specs.Rule.{passes}
 use Rattle.rows.proofs.Walks.{same_settings_lem, hasher_ready, passes_on, passes_off}

@@ -1,13 +1,9 @@
 -- `rows::count_passing` meets its contract. Assumes nothing.
-use Prim.Native.Nat.{◌-◌, ◌<◌, ◌≤◌}
-use mathlib.Core.Path.{◌≡◌, refl}
-use native.Mathlib.Omega.{arith}
+use Prim.Native.Nat.{◌-◌, ◌≤◌}
+use mathlib.Core.Path.{◌≡◌}
 use lib.ListN.{length, take}
-use lib.Seq.{take_all}
 use Rattle.lists.specs.Lists.{filter}
-use Rattle.lists.proofs.Steps.{filter_on, filter_off, length_more}
 use Rattle.rule.specs.Rule.{passes}
-use Rattle.rows.proofs.Walks.{same_settings_lem, hasher_ready, passes_on, passes_off}
 use Rattle.rows.proofs.count_passing.Given as goal
 
 abbrev pub invariant-loop-i : goal.invariant-loop-i

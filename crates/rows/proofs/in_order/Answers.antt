@@ -1,9 +1,7 @@
 -- `rows::in_order` meets its contract. Assumes nothing.
-use Prim.Native.Nat.{◌-◌, ◌≤◌}
-use mathlib.Core.Path.{◌≡◌, refl}
-use mathlib.Core.Bool.{◌&&◌}
+use mathlib.Core.Path.{refl}
 use native.Mathlib.Omega.{arith}
-use lib.ListN.{length, drop, get_or}
+use lib.ListN.{get_or}
 use Rattle.rows.specs.Walked.{in_order}
 use Rattle.rows.proofs.Walks.{test_on, test_end}
 use Rattle.rows.proofs.in_order.Goals as goal

@@ -1,11 +1,9 @@
 -- `rows::in_order` meets its contract. Assumes nothing.
 use Prim.Native.Nat.{◌-◌, ◌≤◌}
-use mathlib.Core.Path.{◌≡◌, refl}
+use mathlib.Core.Path.{◌≡◌}
 use mathlib.Core.Bool.{◌&&◌}
-use native.Mathlib.Omega.{arith}
-use lib.ListN.{length, drop, get_or}
+use lib.ListN.{length, drop}
 use Rattle.rows.specs.Walked.{in_order}
-use Rattle.rows.proofs.Walks.{test_on, test_end}
 use Rattle.rows.proofs.in_order.Given as goal
 
 abbrev pub invariant-loop-i : goal.invariant-loop-i

@@ -3,7 +3,6 @@ use mathlib.Core.Bool.{and-true}
 use Rattle.rule.proofs.Facts.{positive}
 use Rattle.rows.specs.Walked.{in_order}
 use Rattle.rows.proofs.Walks.{all-pass-zero}
-use borrow.Author.Rules.{rules}
 use Rattle.rows.proofs.rises.Goals as goal
 
 pub returns-then-level-eq0 : goal.returns-then-level-eq0

@@ -1,10 +1,10 @@
 -- `rows::zeros` meets its contract. Assumes nothing.
-use Prim.Native.Nat.{◌+◌, ◌-◌, ◌≤◌}
-use mathlib.Core.Path.{◌≡◌, refl, ap, ◌∙◌}
+use Prim.Native.Nat.{◌+◌}
+use mathlib.Core.Path.{refl, ap, ◌∙◌}
 use mathlib.Core.Bool.{Bool, ◌&&◌}
 use native.Mathlib.Omega.{arith}
 use lib.Dec.{eqb}
-use lib.ListN.{length, drop, get_or}
+use lib.ListN.{drop, get_or}
 use Rattle.lists.specs.Rows.{all_zero}
 use Rattle.rows.proofs.Walks.{test_on, test_end, none_seen}
 use Rattle.rows.proofs.zeros.Goals as goal

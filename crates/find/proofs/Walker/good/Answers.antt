@@ -1,7 +1,6 @@
 -- `find::Walker::good` meets its contract. Assumes nothing.
 use Rattle.find.proofs.Checks.{denied, granted}
 use Rattle.find.proofs.Walks.{tests-not, tests-all}
-use borrow.Author.Rules.{rules}
 use Rattle.find.proofs.Walker.good.Goals as goal
 
 pub returns-then-not-good : goal.returns-then-not-good

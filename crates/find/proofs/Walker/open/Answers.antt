@@ -2,7 +2,6 @@
 use Rattle.find.specs.Walking.{start_on}
 use Rattle.find.proofs.Checks.{refused-so, answered-so}
 use Rattle.find.proofs.Walks.{starts_refused, starts_done}
-use borrow.Author.Rules.{rules}
 use Rattle.find.proofs.Walker.open.Goals as goal
 
 pub returns-then-number-ne0 : goal.returns-then-number-ne0

@@ -6,7 +6,6 @@ use Rattle.rule.specs.Refusals.{of_found}
 use Rattle.find.proofs.Checks.{denied, granted}
 use Rattle.find.proofs.Hits.{hit-within}
 use Rattle.find.proofs.Walks.{walker-within, steps_refused, steps_cell, steps_nothing, steps_never}
-use borrow.Author.Rules.{rules}
 use Rattle.find.proofs.Walker.step.Goals as goal
 
 pub returns-then-not-good : goal.returns-then-not-good

@@ -4,7 +4,6 @@ use native.Mathlib.Omega.{arith}
 use native.Mathlib.Nat.{mod-lt}
 use Rattle.rule.proofs.Passing.{product_fits}
 use Rattle.strides.proofs.Moves.{search_at, search_nothing}
-use borrow.Author.Rules.{rules}
 use Rattle.strides.proofs.Stride.least.Goals as goal
 
 pub returns-in-At : goal.returns-in-At

@@ -2,7 +2,6 @@
 use native.Mathlib.Omega.{arith}
 use Rattle.strides.proofs.Moves.{change_most}
 use Rattle.strides.proofs.Gaps.{up_next, down_next, both_next}
-use borrow.Author.Rules.{rules}
 use Rattle.strides.proofs.Strides.next.Goals as goal
 
 pub overflow_sub-self : goal.overflow_sub-self

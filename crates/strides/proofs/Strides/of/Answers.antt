@@ -1,5 +1,4 @@
 -- `strides::Strides::of` meets its contract. Assumes nothing.
-use borrow.Author.Rules.{rules}
 use Rattle.strides.proofs.Strides.of.Goals as goal
 
 pub returns : goal.returns
