@@ -3,7 +3,7 @@
 --     count_is, made_count, count_few    the number of kept cells
 --     bad_settings_lem, too_many, all-parts    the tests as `is_sketch` makes them
 --     same_facts, facts_same        equal settings
-use Prim.Native.Nat.{ℕ, ◌+◌, ◌-◌, ◌<◌, ◌≤◌}
+use Prim.Native.Nat.{ℕ, ◌-◌, ◌<◌, ◌≤◌}
 use mathlib.Core.Path.{◌≡◌, refl, sym, ap, ◌∙◌}
 use mathlib.Core.Bool.{Bool, true, false, ◌&&◌, and-eq-true_iff, and-false, and-true}
 use mathlib.Core.Logic.{⊎_elim}

@@ -5,7 +5,6 @@ use lib.Seq.{length-take-le}
 use Rattle.rule.specs.Cells.{Cells}
 use Rattle.settle.specs.Settling.{Keeps}
 use Rattle.settle.proofs.Cuts.{cut_few, cut_present, cut_all}
-use borrow.Author.Rules.{rules}
 use Rattle.settle.proofs.add_cells.Goals as goal
 
 pub slice_bounds-settled-end : goal.slice_bounds-settled-end

@@ -1,6 +1,5 @@
 -- `settle::gathered` meets its contract. Assumes nothing.
 use Rattle.settle.proofs.Gathers.{gather_within, first-room, second_room, third_room, gather_all}
-use borrow.Author.Rules.{rules}
 use Rattle.settle.proofs.gathered.Goals as goal
 
 pub store_at-first-requires : goal.store_at-first-requires

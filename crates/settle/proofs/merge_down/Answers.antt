@@ -1,17 +1,13 @@
 -- `settle::merge_down` meets its contract. Assumes nothing.
 use mathlib.Core.Path.{◌≡◌, refl, ap, ◌∙◌}
-use mathlib.Core.List.{List}
-use Prim.Native.Nat.{ℕ}
 use native.Mathlib.Omega.{arith}
 use lib.ListN.{length, take}
 use Rattle.lists.specs.Lists.{filter}
 use Rattle.lists.specs.Rows.{union}
 use Rattle.lists.proofs.Stores.{stored_part, stored_front}
-use Rattle.rule.specs.Cells.{Cells}
 use Rattle.rule.specs.Rule.{passes}
 use Rattle.settle.proofs.Cuts.{own-pass, kept-few}
 use Rattle.settle.proofs.Unions.{both_alone, both_keeps}
-use borrow.Author.Rules.{rules}
 use Rattle.settle.proofs.merge_down.Goals as goal
 
 pub store_at-end-requires : goal.store_at-end-requires

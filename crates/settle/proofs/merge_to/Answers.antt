@@ -2,10 +2,8 @@
 use mathlib.Core.Path.{sym}
 use lib.Seq.{length-take-le}
 use Rattle.lists.specs.Lists.{listed}
-use Rattle.rule.specs.Cells.{Cells}
 use Rattle.settle.specs.Settling.{kept_in}
 use Rattle.settle.proofs.Unions.{keeps_higher, keeps_lower}
-use borrow.Author.Rules.{rules}
 use Rattle.settle.proofs.merge_to.Goals as goal
 
 pub slice_bounds-merge_down-end : goal.slice_bounds-merge_down-end

@@ -1,7 +1,7 @@
 -- `settle::settled` meets its contract. Assumes nothing.
 use Prim.Native.Nat.{◌+◌, ◌≤◌}
 use mathlib.Core.Path.{◌≡◌, sym}
-use mathlib.Core.Bool.{Bool, true, false}
+use mathlib.Core.Bool.{true, false}
 use native.Mathlib.Omega.{arith}
 use Rattle.rule.specs.Rule.{top}
 use Rattle.rule.specs.Samples.{fits}

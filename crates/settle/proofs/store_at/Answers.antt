@@ -7,7 +7,6 @@ use lib.ListN.{length}
 use Rattle.lists.specs.Lists.{filter}
 use Rattle.lists.specs.Rows.{Stored}
 use Rattle.rule.specs.Rule.{passes}
-use borrow.Author.Rules.{rules}
 use Rattle.settle.proofs.store_at.Goals as goal
 
 pub store-requires : goal.store-requires

@@ -1,14 +1,12 @@
 -- `settle::thinned` meets its contract. Assumes nothing.
-use Prim.Native.Nat.{ℕ, ◌<◌, ◌≤◌}
+use Prim.Native.Nat.{◌<◌, ◌≤◌}
 use mathlib.Core.Path.{sym, ap}
-use mathlib.Core.List.{List}
 use native.Mathlib.Omega.{arith}
 use lib.ListN.{length, take}
 use lib.Seq.{length-take-le}
 use Rattle.rule.proofs.Samples.{fits-few}
 use Rattle.lists.proofs.Stores.{stored_front}
 use Rattle.settle.proofs.Unions.{alone_sample, alone_room, alone_fits, thins_now, thins_next}
-use borrow.Author.Rules.{rules}
 use Rattle.settle.proofs.thinned.Goals as goal
 
 pub returns-then-many-settings : goal.returns-then-many-settings

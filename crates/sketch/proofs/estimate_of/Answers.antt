@@ -4,12 +4,10 @@ use mathlib.Core.Bool.{true}
 use lib.Ieee.{Float}
 use Rattle.rule.specs.Refusals.{answered}
 use Rattle.find.proofs.Checks.{denied, granted}
-use Rattle.sketch.specs.declared.Sketch.{Sketch}
 use Rattle.sketch.specs.Estimates.{about}
 use Rattle.sketch.specs.Sketches.{held, is_sketch, Sound}
 use Rattle.sketch.proofs.Facts.{sketch_facts}
 use Rattle.sketch.proofs.Worth.{few_enough, weighs_not, weighs_exact, weighs_about, estimate_worth}
-use borrow.Author.Rules.{rules}
 use Rattle.sketch.proofs.estimate_of.Goals as goal
 
 pub returns-then-not-is_sketch : goal.returns-then-not-is_sketch

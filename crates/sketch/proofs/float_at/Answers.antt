@@ -1,6 +1,5 @@
 -- `sketch::float_at` meets its contract. Assumes nothing.
 use Rattle.sketch.specs.Estimates.{float_at}
-use borrow.Author.Rules.{rules}
 use Rattle.sketch.proofs.float_at.Goals as goal
 
 pub returns : goal.returns

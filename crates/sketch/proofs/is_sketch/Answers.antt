@@ -1,18 +1,16 @@
 -- `sketch::is_sketch` meets its contract. Assumes nothing.
 use Prim.Native.Nat.{◌≤◌}
-use mathlib.Core.Path.{◌≡◌, sym, ap, ◌∙◌}
+use mathlib.Core.Path.{sym, ap, ◌∙◌}
 use native.Mathlib.Omega.{arith}
 use lib.ListN.{length}
 use lib.Seq.{length-take-le}
 use Rattle.lists.specs.Rows.{all_zero}
 use Rattle.lists.proofs.Steps.{part_rest}
 use Rattle.rule.specs.Rule.{Good}
-use Rattle.rule.proofs.Facts.{good_facts, positive}
+use Rattle.rule.proofs.Facts.{good_facts}
 use Rattle.find.proofs.Checks.{denied, granted}
-use Rattle.sketch.specs.declared.Sketch.{Sketch}
 use Rattle.sketch.specs.Sketches.{held}
 use Rattle.sketch.proofs.Facts.{bad_settings_lem, too_many, all-parts}
-use borrow.Author.Rules.{rules}
 use Rattle.sketch.proofs.is_sketch.Goals as goal
 
 pub returns-then-n-gt-PLACES : goal.returns-then-n-gt-PLACES

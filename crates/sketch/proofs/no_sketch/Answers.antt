@@ -1,7 +1,6 @@
 -- `sketch::no_sketch` meets its contract: the zero settings are `no_settings`'s. Assumes nothing.
 use mathlib.Core.Path.{ap}
 use mathlib.Core.List.{[]}
-use borrow.Author.Rules.{rules}
 use Rattle.rule.specs.declared.Settings.{Settings}
 use Rattle.sketch.specs.Sketches.{sketch_at}
 use Rattle.sketch.proofs.no_sketch.Goals as goal

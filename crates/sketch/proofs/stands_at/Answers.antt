@@ -2,7 +2,6 @@
 use mathlib.Core.Path.{sym, ◌∙◌}
 use Rattle.sketch.specs.Estimates.{stands_at}
 use Rattle.sketch.proofs.Worth.{stands_none}
-use borrow.Author.Rules.{rules}
 use Rattle.sketch.proofs.stands_at.Goals as goal
 
 pub returns-then-region-eq0 : goal.returns-then-region-eq0

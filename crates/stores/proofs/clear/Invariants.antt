@@ -1,10 +1,8 @@
 -- `stores::clear` meets its contract. Assumes nothing.
-use Prim.Native.Nat.{ℕ, ◌+◌, ◌-◌, ◌≤◌}
-use mathlib.Core.Path.{◌≡◌, refl, ap, ◌∙◌}
-use native.Mathlib.Omega.{arith}
-use lib.ListN.{length, replicate, length-set, replicate-append-replicate}
+use Prim.Native.Nat.{◌-◌, ◌≤◌}
+use mathlib.Core.Path.{◌≡◌}
+use lib.ListN.{length, replicate}
 use Rattle.lists.specs.Rows.{Stored}
-use Rattle.lists.proofs.Stores.{stored-none, stored_more, stored_as}
 use Rattle.stores.proofs.clear.Given as goal
 
 abbrev pub invariant-loop-place : goal.invariant-loop-place

@@ -1,12 +1,9 @@
 -- `stores::keep_passing` meets its contract. Assumes nothing.
-use Prim.Native.Nat.{◌-◌, ◌<◌, ◌≤◌}
+use Prim.Native.Nat.{◌<◌}
 use mathlib.Core.Path.{◌≡◌, refl}
 use native.Mathlib.Omega.{arith}
-use lib.ListN.{length, take, length-set}
-use Rattle.lists.specs.Lists.{filter}
-use Rattle.lists.specs.Rows.{Stored}
+use lib.ListN.{length, length-set}
 use Rattle.lists.proofs.Stores.{stored-none, stored_beyond}
-use Rattle.rule.specs.Rule.{passes}
 use Rattle.rows.proofs.Walks.{same_settings_lem, hasher_ready, passing_on, passing_off}
 use Rattle.stores.proofs.keep_passing.Goals as goal
 

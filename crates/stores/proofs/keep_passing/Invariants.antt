@@ -1,13 +1,10 @@
 -- `stores::keep_passing` meets its contract. Assumes nothing.
-use Prim.Native.Nat.{◌-◌, ◌<◌, ◌≤◌}
-use mathlib.Core.Path.{◌≡◌, refl}
-use native.Mathlib.Omega.{arith}
-use lib.ListN.{length, take, length-set}
+use Prim.Native.Nat.{◌-◌, ◌≤◌}
+use mathlib.Core.Path.{◌≡◌}
+use lib.ListN.{length, take}
 use Rattle.lists.specs.Lists.{filter}
 use Rattle.lists.specs.Rows.{Stored}
-use Rattle.lists.proofs.Stores.{stored-none, stored_beyond}
 use Rattle.rule.specs.Rule.{passes}
-use Rattle.rows.proofs.Walks.{same_settings_lem, hasher_ready, passing_on, passing_off}
 use Rattle.stores.proofs.keep_passing.Given as goal
 
 abbrev pub invariant-loop-i : goal.invariant-loop-i

@@ -1,10 +1,8 @@
 -- `stores::slide` meets its contract. Assumes nothing.
-use Prim.Native.Nat.{◌+◌, ◌-◌, ◌<◌, ◌≤◌}
 use mathlib.Core.Path.{◌≡◌, refl}
 use native.Mathlib.Omega.{arith}
-use lib.ListN.{length, get_or, length-set}
-use lib.Seq.{slice, slice_empty}
-use Rattle.lists.specs.Rows.{Stored}
+use lib.ListN.{get_or, length-set}
+use lib.Seq.{slice_empty}
 use Rattle.lists.proofs.Steps.{slice_next}
 use Rattle.lists.proofs.Stores.{stored-none, stored_more, stored_beyond}
 use Rattle.stores.proofs.slide.Goals as goal

@@ -1,12 +1,9 @@
 -- `stores::slide` meets its contract. Assumes nothing.
-use Prim.Native.Nat.{◌+◌, ◌-◌, ◌<◌, ◌≤◌}
-use mathlib.Core.Path.{◌≡◌, refl}
-use native.Mathlib.Omega.{arith}
-use lib.ListN.{length, get_or, length-set}
-use lib.Seq.{slice, slice_empty}
+use Prim.Native.Nat.{◌+◌, ◌-◌, ◌≤◌}
+use mathlib.Core.Path.{◌≡◌}
+use lib.ListN.{length}
+use lib.Seq.{slice}
 use Rattle.lists.specs.Rows.{Stored}
-use Rattle.lists.proofs.Steps.{slice_next}
-use Rattle.lists.proofs.Stores.{stored-none, stored_more, stored_beyond}
 use Rattle.stores.proofs.slide.Given as goal
 
 abbrev pub invariant-loop-i : goal.invariant-loop-i

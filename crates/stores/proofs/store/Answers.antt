@@ -1,11 +1,10 @@
 -- `stores::store` meets its contract. Assumes nothing.
-use Prim.Native.Nat.{◌+◌, ◌-◌, ◌<◌, ◌≤◌}
-use mathlib.Core.Path.{◌≡◌, refl}
+use Prim.Native.Nat.{◌<◌, ◌≤◌}
+use mathlib.Core.Path.{refl}
 use native.Mathlib.Omega.{arith}
 use native.Mathlib.Nat.{add-zero, add_assoc}
-use lib.ListN.{length, take, get_or, length-set}
+use lib.ListN.{length, get_or, length-set}
 use lib.Seq.{take_all}
-use Rattle.lists.specs.Rows.{Stored}
 use Rattle.lists.proofs.Steps.{take_next}
 use Rattle.lists.proofs.Stores.{stored-none, stored_more}
 use Rattle.stores.proofs.store.Goals as goal

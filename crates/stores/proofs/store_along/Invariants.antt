@@ -1,10 +1,6 @@
 -- `stores::store_along` meets its contract. Assumes nothing.
 use Prim.Native.Nat.{suc, ◌-◌}
-use native.Mathlib.Omega.{arith}
-use borrow.Author.Rules.{rules}
-use Rattle.rule.proofs.Facts.{small}
-use Rattle.find.proofs.Counting.{hash_below}
-use Rattle.stores.proofs.Hitting.{Along, along_start, along_room, along_on, along_end}
+use Rattle.stores.proofs.Hitting.{Along}
 use Rattle.stores.proofs.store_along.Given as goal
 
 abbrev pub invariant-loop-hit : goal.invariant-loop-hit

@@ -5,7 +5,6 @@ use Rattle.rule.specs.Samples.{next_hit}
 use Rattle.rule.proofs.NextHits.{next_some}
 use Rattle.find.proofs.Counting.{count_none}
 use Rattle.stores.proofs.Hitting.{cell_next, nothing_next, never_refused, hits-none, hits-one, hits_from}
-use borrow.Author.Rules.{rules}
 use Rattle.stores.proofs.store_hits.Goals as goal
 
 pub returns-then-many-eq0 : goal.returns-then-many-eq0

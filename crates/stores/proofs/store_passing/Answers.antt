@@ -1,13 +1,10 @@
 -- `stores::store_passing` meets its contract. Assumes nothing.
-use Prim.Native.Nat.{◌-◌, ◌<◌, ◌≤◌}
-use mathlib.Core.Path.{◌≡◌, refl}
+use Prim.Native.Nat.{◌<◌, ◌≤◌}
+use mathlib.Core.Path.{refl}
 use native.Mathlib.Omega.{arith}
-use lib.ListN.{length, take, length-set}
+use lib.ListN.{length, length-set}
 use lib.Seq.{take_all}
-use Rattle.lists.specs.Lists.{filter}
-use Rattle.lists.specs.Rows.{Stored}
 use Rattle.lists.proofs.Stores.{stored-none}
-use Rattle.rule.specs.Rule.{passes}
 use Rattle.rows.proofs.Walks.{same_settings_lem, hasher_ready, passing-room, passing_on, passing_off}
 use Rattle.stores.proofs.store_passing.Goals as goal
 use Rattle.stores.proofs.store_passing.Goals.{Then-hash-size}

@@ -1,15 +1,14 @@
 -- `stores::unite` meets its contract. Assumes nothing.
-use Prim.Native.Nat.{ℕ, ◌-◌, ◌<◌, ◌≤◌}
-use mathlib.Core.Path.{◌≡◌, ap, ◌∙◌}
-use mathlib.Core.Logic.{⊎_elim, inl, inr}
+use Prim.Native.Nat.{ℕ, ◌-◌, ◌<◌}
+use mathlib.Core.Path.{ap, ◌∙◌}
+use mathlib.Core.Logic.{inl, inr}
 use mathlib.Core.List.{List}
 use native.Mathlib.Omega.{arith}
-use borrow.Author.Rules.{rules}
 use lib.ListN.{length, take, drop, length-drop}
 use borrow.Author.Tests.{ltb-true, ltb-false}
 use Rattle.lists.specs.Rows.{Stored}
 use Rattle.lists.proofs.Steps.{part_rest}
-use Rattle.stores.proofs.Merges.{Merging, merge-start, merge_on_lem, merge-room, merge_end}
+use Rattle.stores.proofs.Merges.{merge-start, merge_on_lem, merge-room, merge_end}
 use Rattle.stores.proofs.unite.Goals as goal
 use Rattle.stores.proofs.unite.Goals.{then-loop-i-test+else-j-end, else-loop-i-test}
 

@@ -1,15 +1,7 @@
 -- `stores::unite` meets its contract. Assumes nothing.
-use Prim.Native.Nat.{ℕ, ◌-◌, ◌<◌, ◌≤◌}
-use mathlib.Core.Path.{◌≡◌, ap, ◌∙◌}
-use mathlib.Core.Logic.{⊎_elim, inl, inr}
-use mathlib.Core.List.{List}
-use native.Mathlib.Omega.{arith}
-use borrow.Author.Rules.{rules}
-use lib.ListN.{length, drop, length-drop}
-use borrow.Author.Tests.{ltb-true, ltb-false}
-use Rattle.lists.specs.Rows.{Stored}
-use Rattle.lists.proofs.Steps.{part_rest}
-use Rattle.stores.proofs.Merges.{Merging, merge-start, merge_on_lem, merge-room, merge_end}
+use Prim.Native.Nat.{◌-◌}
+use lib.ListN.{length}
+use Rattle.stores.proofs.Merges.{Merging}
 use Rattle.stores.proofs.unite.Given as goal
 
 abbrev pub invariant-loop-i : goal.invariant-loop-i

@@ -1,7 +1,6 @@
 -- `settle::levels::above` meets its contract. Assumes nothing.
 use native.Mathlib.Omega.{arith}
 use Rattle.rule.proofs.Passing.{top_small}
-use borrow.Author.Rules.{rules}
 use Rattle.settle.proofs.levels.above.Goals as goal
 
 pub overflow_add-next : goal.overflow_add-next

@@ -1,11 +1,8 @@
 -- `settle::levels::climbed` meets its contract. Assumes nothing.
 use Prim.Native.Nat.{◌-◌}
-use native.Mathlib.Omega.{arith}
 use Rattle.rule.specs.Rule.{top}
-use Rattle.rule.proofs.Passing.{top_small}
-use Rattle.find.proofs.Checks.{denied, granted}
 use Rattle.settle.specs.Settling.{all_of}
-use Rattle.settle.proofs.Searches.{Raising, raise_start, raise_room, raise_on, raise_end}
+use Rattle.settle.proofs.Searches.{Raising}
 use Rattle.settle.proofs.levels.climbed.Given as goal
 
 abbrev pub invariant-loop-settings : goal.invariant-loop-settings

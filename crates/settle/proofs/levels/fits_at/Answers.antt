@@ -4,7 +4,6 @@ use native.Mathlib.Omega.{arith}
 use Rattle.lists.proofs.Filters.{filter-short}
 use Rattle.rule.specs.Rule.{passes}
 use Rattle.settle.proofs.Around.{fits-over, fits_sum}
-use borrow.Author.Rules.{rules}
 use Rattle.settle.proofs.levels.fits_at.Goals as goal
 use Rattle.settle.proofs.levels.fits_at.Goals.{After-count_passing-after}
 

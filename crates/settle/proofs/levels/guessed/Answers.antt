@@ -1,7 +1,6 @@
 -- `settle::levels::guessed` meets its contract. Assumes nothing.
 use native.Mathlib.Omega.{arith}
 use lib.Count.{leading_le}
-use borrow.Author.Rules.{rules}
 use Rattle.settle.proofs.levels.guessed.Goals as goal
 
 pub overflow_add-level : goal.overflow_add-level

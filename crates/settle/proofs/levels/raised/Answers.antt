@@ -3,8 +3,7 @@ use mathlib.Core.Path.{◌∙◌}
 use native.Mathlib.Omega.{arith}
 use Rattle.rule.proofs.Samples.{lowest_skip}
 use Rattle.find.proofs.Checks.{denied, granted}
-use Rattle.settle.specs.Settling.{all_of}
-use Rattle.settle.proofs.Searches.{Lowering, lower-start, lower_on, lower_stop, lower_end}
+use Rattle.settle.proofs.Searches.{lower-start, lower_on, lower_stop, lower_end}
 use Rattle.settle.proofs.levels.raised.Goals as goal
 
 pub climbed-found-requires : goal.climbed-found-requires

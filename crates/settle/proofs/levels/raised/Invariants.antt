@@ -1,10 +1,6 @@
 -- `settle::levels::raised` meets its contract. Assumes nothing.
-use mathlib.Core.Path.{◌∙◌}
-use native.Mathlib.Omega.{arith}
-use Rattle.rule.proofs.Samples.{lowest_skip}
-use Rattle.find.proofs.Checks.{denied, granted}
 use Rattle.settle.specs.Settling.{all_of}
-use Rattle.settle.proofs.Searches.{Lowering, lower-start, lower_on, lower_stop, lower_end}
+use Rattle.settle.proofs.Searches.{Lowering}
 use Rattle.settle.proofs.levels.raised.Given as goal
 
 abbrev pub invariant-loop-l : goal.invariant-loop-l

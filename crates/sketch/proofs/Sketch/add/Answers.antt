@@ -1,10 +1,9 @@
 -- `sketch::Sketch::add` meets its contract. Assumes nothing.
-use mathlib.Core.Path.{◌≡◌, sym, ap, ◌∙◌}
+use mathlib.Core.Path.{sym, ap, ◌∙◌}
 use Rattle.rule.specs.Refusals.{of_answer}
 use Rattle.sketch.specs.Calls.{done_with}
 use Rattle.sketch.proofs.Facts.{sketch_facts}
 use Rattle.sketch.proofs.Handing.{hands_done, hands_refused, add_granted, add-told}
-use borrow.Author.Rules.{rules}
 use Rattle.sketch.proofs.Sketch.add.Goals as goal
 
 pub added-next-requires : goal.added-next-requires

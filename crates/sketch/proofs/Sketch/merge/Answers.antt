@@ -4,7 +4,6 @@ use Rattle.rule.specs.Refusals.{of_answer}
 use Rattle.sketch.specs.Calls.{done_with}
 use Rattle.sketch.proofs.Facts.{sketch_facts}
 use Rattle.sketch.proofs.Handing.{hands_done, hands_refused, merge_granted, merge-told}
-use borrow.Author.Rules.{rules}
 use Rattle.sketch.proofs.Sketch.merge.Goals as goal
 
 pub merged-both-requires : goal.merged-both-requires

@@ -4,7 +4,6 @@ use Rattle.find.proofs.Checks.{denied, granted}
 use Rattle.sketch.specs.Sketches.{sketch_at, opened}
 use Rattle.sketch.specs.Calls.{refused_with}
 use Rattle.sketch.proofs.Handing.{hands_done, hands_refused, open_good, open_bad}
-use borrow.Author.Rules.{rules}
 use Rattle.sketch.proofs.Sketch.open.Goals as goal
 
 pub returns-then-not-good : goal.returns-then-not-good

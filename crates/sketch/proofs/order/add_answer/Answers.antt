@@ -1,8 +1,6 @@
 -- `sketch::order::add_answer` meets its contract. Assumes nothing.
-use borrow.Author.Tests.{not-true, not-false}
 use Rattle.find.proofs.Checks.{denied, granted}
 use Rattle.sketch.proofs.Handing.{add_unknown, add_outside, add_done}
-use borrow.Author.Rules.{rules}
 use Rattle.sketch.proofs.order.add_answer.Goals as goal
 
 pub returns-then-not-known : goal.returns-then-not-known

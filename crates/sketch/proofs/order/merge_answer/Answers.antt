@@ -1,8 +1,6 @@
 -- `sketch::order::merge_answer` meets its contract. Assumes nothing.
-use borrow.Author.Tests.{not-true, not-false}
 use Rattle.find.proofs.Checks.{denied, granted}
 use Rattle.sketch.proofs.Handing.{merge_unknown, merge_other, merge-unequal, merge_done}
-use borrow.Author.Rules.{rules}
 use Rattle.sketch.proofs.order.merge_answer.Goals as goal
 
 pub returns-then-not-mine : goal.returns-then-not-mine
