@@ -2,7 +2,6 @@
 use mathlib.Core.Path.{ap, ◌∙◌}
 use Rattle.sketch.specs.Sketches.{is_sketch}
 use Rattle.crossing.proofs.Crossings.{parts_in}
-use borrow.Author.Rules.{rules}
 use Rattle.crossing.proofs.is_sketch.Goals as goal
 
 pub returns : goal.returns

@@ -1,7 +1,6 @@
 -- `crossing::kept_in` meets its contract. Assumes nothing.
 use mathlib.Core.Path.{refl}
 use Rattle.crossing.specs.Crossing.{sketch_in}
-use borrow.Author.Rules.{rules}
 use Rattle.crossing.proofs.kept_in.Goals as goal
 
 pub returns : goal.returns

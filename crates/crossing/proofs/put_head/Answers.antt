@@ -1,7 +1,6 @@
 -- `crossing::put_head` meets its contract. Assumes nothing.
 use native.Mathlib.Omega.{arith}
 use lib.ListN.{length-set}
-use borrow.Author.Rules.{rules}
 use Rattle.crossing.proofs.Crossings.{head_stored}
 use Rattle.crossing.proofs.put_head.Goals as goal
 

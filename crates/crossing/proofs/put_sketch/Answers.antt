@@ -5,7 +5,6 @@ use Prim.Native.Nat.{ℕ}
 use Rattle.sketch.specs.Sketches.{held}
 use Rattle.crossing.specs.Crossing.{sketch_row}
 use Rattle.crossing.proofs.Crossings.{cells-stored}
-use borrow.Author.Rules.{rules}
 use Rattle.crossing.proofs.put_sketch.Goals as goal
 
 pub returns : goal.returns

@@ -1,6 +1,5 @@
 -- `crossing::walker_in` meets its contract. Assumes nothing.
 use Rattle.crossing.specs.Crossing.{walker_in}
-use borrow.Author.Rules.{rules}
 use Rattle.crossing.proofs.walker_in.Goals as goal
 
 pub returns : goal.returns

@@ -2,7 +2,6 @@
 use mathlib.Core.Path.{sym, ◌∙◌}
 use Rattle.evening.proofs.Replying.{tells_as, replied_as}
 use Rattle.evening.specs.Replies.{reply_to}
-use borrow.Author.Rules.{rules}
 use Rattle.evening.proofs.answer.Goals as goal
 
 pub returns-in-Settings : goal.returns-in-Settings

@@ -4,7 +4,6 @@ use Rattle.rule.specs.Refusals.{of_answer}
 use Rattle.sketch.proofs.Handing.{add_granted}
 use Rattle.evening.specs.Replies.{kept}
 use Rattle.evening.proofs.Replying.{tells_as, add-refused, add_kept}
-use borrow.Author.Rules.{rules}
 use Rattle.evening.proofs.answer_add.Goals as goal
 
 pub added-next-requires : goal.added-next-requires

@@ -2,7 +2,6 @@
 use mathlib.Core.Path.{sym, ap, ◌∙◌}
 use Rattle.evening.proofs.Replying.{tells_as, open_refused, open_kept}
 use Rattle.rule.specs.Refusals.{of_answer}
-use borrow.Author.Rules.{rules}
 use Rattle.evening.proofs.answer_open.Goals as goal
 
 pub returns-in-Refused : goal.returns-in-Refused

@@ -2,7 +2,6 @@
 use mathlib.Core.Path.{ap}
 use mathlib.Core.Bool.{false}
 use lib.ListN.{replicate}
-use borrow.Author.Rules.{rules}
 use Rattle.evening.proofs.begin.Goals as goal
 
 pub returns : goal.returns

@@ -1,13 +1,11 @@
 -- `evening::feed` meets its contract: a turn is a byte of the run. Assumes nothing.
 use borrow.Author.Rules.{rules}
 use Prim.Native.Nat.{◌-◌, ◌≤◌, ◌<◌}
-use mathlib.Core.Path.{◌≡◌, sym}
+use mathlib.Core.Path.{sym}
 use native.Mathlib.Omega.{arith}
 use lib.ListN.{length, length-set}
-use borrow.Author.Tests.{leb-true, leb-false}
 use lib.Seq.{length-take-le}
-use Rattle.evening.specs.declared.Evening.{Evening}
-use Rattle.evening.proofs.Feeding.{Feeding, feeding_start, feeding_line, feeding_noted, feeding_long, feeding_done, feeding_full}
+use Rattle.evening.proofs.Feeding.{feeding_start, feeding_line, feeding_noted, feeding_long, feeding_done, feeding_full}
 use Rattle.evening.proofs.feed.Goals as goal
 
 pub loop-taken-init : goal.loop-taken-init

@@ -1,6 +1,5 @@
 -- `evening::keep` meets its contract. Assumes nothing.
 use mathlib.Core.Path.{refl}
-use borrow.Author.Rules.{rules}
 use Rattle.evening.proofs.keep.Goals as goal
 
 pub returns : goal.returns

@@ -9,7 +9,6 @@ use Rattle.sketch.proofs.Facts.{sketch_facts}
 use Rattle.sketch.proofs.Handing.{add_granted}
 use Rattle.crossing.proofs.Crossings.{settings-of_row}
 use Rattle.host.proofs.Outcomes.{gives_refused, gives_done, adds-told}
-use borrow.Author.Rules.{rules}
 use Rattle.host.proofs.add_in.Goals as goal
 
 pub add_known-requires : goal.add_known-requires

@@ -2,7 +2,6 @@
 use mathlib.Core.Path.{ap, ◌∙◌}
 use Rattle.sketch.specs.Estimates.{estimate_on}
 use Rattle.crossing.proofs.Crossings.{parts_in}
-use borrow.Author.Rules.{rules}
 use Rattle.host.proofs.estimate_in.Goals as goal
 
 pub returns : goal.returns

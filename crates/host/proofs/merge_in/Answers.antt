@@ -11,7 +11,6 @@ use Rattle.sketch.proofs.Handing.{merge_granted}
 use Rattle.crossing.specs.Crossing.{sketch_row}
 use Rattle.crossing.proofs.Crossings.{row-kept_in}
 use Rattle.host.proofs.Outcomes.{gives_refused, gives_done, merges_told, merges_kept}
-use borrow.Author.Rules.{rules}
 use Rattle.host.proofs.merge_in.Goals as goal
 
 pub merge_to-kept-requires : goal.merge_to-kept-requires

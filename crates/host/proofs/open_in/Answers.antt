@@ -1,6 +1,5 @@
 -- `host::open_in` meets its contract: what opening hands back crosses. Assumes nothing.
 use Rattle.host.proofs.Outcomes.{given}
-use borrow.Author.Rules.{rules}
 use Rattle.host.proofs.open_in.Goals as goal
 
 pub returns : goal.returns

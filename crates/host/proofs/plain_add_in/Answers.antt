@@ -7,7 +7,6 @@ use Rattle.plain.proofs.Calls.{plain_granted}
 use Rattle.crossing.specs.Crossing.{sketch_row}
 use Rattle.crossing.proofs.Crossings.{row-kept_in}
 use Rattle.host.proofs.Outcomes.{gives_refused, gives_done, plain_adds_told, adds-kept}
-use borrow.Author.Rules.{rules}
 use Rattle.host.proofs.plain_add_in.Goals as goal
 
 pub fill-kept-requires : goal.fill-kept-requires

@@ -1,6 +1,5 @@
 -- `host::pot_count` meets its contract: the count crosses. Assumes nothing.
 use mathlib.Core.Path.{ap, ◌∙◌}
-use borrow.Author.Rules.{rules}
 use Rattle.find.specs.Finding.{count_on}
 use Rattle.host.proofs.Outcomes.{told}
 use Rattle.host.proofs.pot_count.Goals as goal

@@ -1,5 +1,4 @@
 -- `host::pot_estimate` meets its contract: the estimate crosses as a double. Assumes nothing.
-use borrow.Author.Rules.{rules}
 use Rattle.host.proofs.pot_estimate.Goals as goal
 
 pub returns : goal.returns

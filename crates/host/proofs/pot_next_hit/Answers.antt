@@ -1,6 +1,5 @@
 -- `host::pot_next_hit` meets its contract: the hit crosses. Assumes nothing.
 use mathlib.Core.Path.{ap, ◌∙◌}
-use borrow.Author.Rules.{rules}
 use Rattle.find.specs.Finding.{next_on}
 use Rattle.host.proofs.Outcomes.{told}
 use Rattle.host.proofs.pot_next_hit.Goals as goal

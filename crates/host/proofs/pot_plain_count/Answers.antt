@@ -1,6 +1,5 @@
 -- `host::pot_plain_count` meets its contract: the plain count crosses. Assumes nothing.
 use mathlib.Core.Path.{ap, ◌∙◌}
-use borrow.Author.Rules.{rules}
 use Rattle.plain.specs.Plain.{plain_count_on}
 use Rattle.host.proofs.Outcomes.{told}
 use Rattle.host.proofs.pot_plain_count.Goals as goal

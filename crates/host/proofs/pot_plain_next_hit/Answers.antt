@@ -1,6 +1,5 @@
 -- `host::pot_plain_next_hit` meets its contract: the plain hit crosses. Assumes nothing.
 use mathlib.Core.Path.{ap, ◌∙◌}
-use borrow.Author.Rules.{rules}
 use Rattle.plain.specs.Plain.{plain_next_on}
 use Rattle.host.proofs.Outcomes.{told}
 use Rattle.host.proofs.pot_plain_next_hit.Goals as goal

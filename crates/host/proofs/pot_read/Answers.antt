@@ -1,6 +1,5 @@
 -- `host::pot_read` meets its contract: the sketch and the block cross. Assumes nothing.
 use Rattle.host.proofs.Outcomes.{told}
-use borrow.Author.Rules.{rules}
 use Rattle.host.proofs.pot_read.Goals as goal
 
 pub returns : goal.returns

@@ -1,6 +1,5 @@
 -- `host::pot_walker_next` meets its contract: the hit and the walker after it cross. Assumes nothing.
 use mathlib.Core.Path.{ap, ◌∙◌}
-use borrow.Author.Rules.{rules}
 use Rattle.crossing.specs.Crossing.{walker_row}
 use Rattle.host.proofs.Outcomes.{told}
 use Rattle.host.proofs.pot_walker_next.Goals as goal

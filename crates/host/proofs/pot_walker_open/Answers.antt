@@ -1,5 +1,4 @@
 -- `host::pot_walker_open` meets its contract: the walker crosses. Assumes nothing.
-use borrow.Author.Rules.{rules}
 use Rattle.host.proofs.Outcomes.{begun}
 use Rattle.host.proofs.pot_walker_open.Goals as goal
 

@@ -1,6 +1,5 @@
 -- `host::pot_write` meets its contract: the length crosses, and the room is the writer's. Assumes nothing.
 use Rattle.host.proofs.Outcomes.{told}
-use borrow.Author.Rules.{rules}
 use Rattle.host.proofs.pot_write.Goals as goal
 
 pub returns : goal.returns

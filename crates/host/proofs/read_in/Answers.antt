@@ -5,7 +5,6 @@ use Prim.Native.Nat.{ℕ}
 use Rattle.sketch.specs.Sketches.{held}
 use Rattle.crossing.specs.Crossing.{sketch_row}
 use Rattle.crossing.proofs.Crossings.{cells_lent}
-use borrow.Author.Rules.{rules}
 use Rattle.host.proofs.read_in.Goals as goal
 
 pub returns : goal.returns

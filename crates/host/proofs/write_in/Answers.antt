@@ -3,7 +3,6 @@ use mathlib.Core.Path.{subst}
 use Rattle.sketch.specs.declared.Sketch.{Sketch}
 use Rattle.image.specs.Calls.{Writes}
 use Rattle.crossing.proofs.Crossings.{parts_in}
-use borrow.Author.Rules.{rules}
 use Rattle.host.proofs.write_in.Goals as goal
 
 pub returns : goal.returns

@@ -1,12 +1,9 @@
 -- `image::read_into` meets its contract: a case for each refusal, in order. Assumes nothing.
-use Prim.Native.Nat.{ℕ, ◌≤◌}
+use Prim.Native.Nat.{◌≤◌}
 use mathlib.Core.Path.{◌≡◌, sym, ◌∙◌}
 use mathlib.Core.Bool.{true}
-use mathlib.Core.List.{List}
 use lib.ListN.{length}
 use native.Mathlib.Omega.{arith}
-use borrow.Author.Tests.{not-true, not-false}
-use borrow.Author.Rules.{rules}
 use Rattle.layout.specs.Shapes.{Blocks, blocks_in, first_wrong}
 use Rattle.image.specs.Calls.{right_length}
 use Rattle.image.proofs.Answers.{length_facts, all_right, read_length, read_check, read_mark, read_on_lem}

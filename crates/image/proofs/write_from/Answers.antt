@@ -6,9 +6,6 @@ use mathlib.Core.List.{◌++◌}
 use native.Mathlib.Omega.{arith}
 use lib.ListN.{length, drop}
 use lib.Seq.{length-take-le}
-use borrow.Author.Tests.{not-true, not-false}
-use borrow.Author.Rules.{rules}
-use Rattle.sketch.specs.declared.Sketch.{Sketch}
 use Rattle.sketch.specs.Sketches.{held, is_sketch, cells_of}
 use Rattle.sketch.proofs.Facts.{sketch_facts, count_few}
 use Rattle.layout.specs.Images.{image_of}

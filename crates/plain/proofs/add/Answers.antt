@@ -5,7 +5,6 @@ use Rattle.sketch.specs.Calls.{done_with}
 use Rattle.sketch.proofs.Facts.{sketch_facts}
 use Rattle.sketch.proofs.Handing.{hands_done, hands_refused}
 use Rattle.plain.proofs.Calls.{plain_granted, plain_told}
-use borrow.Author.Rules.{rules}
 use Rattle.plain.proofs.add.Goals as goal
 
 pub added-next-requires : goal.added-next-requires

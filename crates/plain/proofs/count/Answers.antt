@@ -8,7 +8,6 @@ use Rattle.find.specs.Finding.{count_on}
 use Rattle.find.proofs.Checks.{range_facts}
 use Rattle.plain.specs.Plain.{plain_count_on}
 use Rattle.plain.proofs.Calls.{plain_refused, plain_answered, plain_held}
-use borrow.Author.Rules.{rules}
 use Rattle.plain.proofs.count.Goals as goal
 
 pub returns-then-number-ne0 : goal.returns-then-number-ne0

@@ -1,11 +1,9 @@
 -- `plain::count_each` meets its contract. Each turn adds what one cell counts; the cells left fall. Assumes nothing.
 use Prim.Native.Nat.{suc, ◌-◌, ◌≤◌}
-use mathlib.Core.Path.{◌≡◌, sym, ap, ◌∙◌}
-use native.Mathlib.Omega.{arith}
+use mathlib.Core.Path.{◌≡◌}
 use lib.ListN.{length}
 use Rattle.rule.specs.Rule.{passes}
-use Rattle.rule.specs.Samples.{range_count}
-use Rattle.plain.proofs.Walks.{seen, seen_none, seen_more, seen_all, one_at_most}
+use Rattle.plain.proofs.Walks.{seen}
 use Rattle.plain.proofs.count_each.Given as goal
 
 abbrev pub invariant-loop-x : goal.invariant-loop-x

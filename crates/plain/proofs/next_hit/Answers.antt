@@ -4,7 +4,6 @@ use native.Mathlib.Omega.{arith}
 use Rattle.find.specs.Finding.{next_on}
 use Rattle.plain.specs.Plain.{plain_next_on}
 use Rattle.plain.proofs.Calls.{plain_refused, plain_answered, plain_held, cell_range}
-use borrow.Author.Rules.{rules}
 use Rattle.plain.proofs.next_hit.Goals as goal
 
 pub returns-then-number-ne0 : goal.returns-then-number-ne0

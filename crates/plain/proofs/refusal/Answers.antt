@@ -1,6 +1,4 @@
 -- `plain::refusal` meets its contract. Assumes nothing.
-use borrow.Author.Rules.{rules}
-use borrow.Author.Tests.{not-true, not-false}
 use Rattle.find.proofs.Checks.{denied, granted, settings-first, level_second, range_third, none_left}
 use Rattle.plain.proofs.Calls.{above-limit, below_limit}
 use Rattle.plain.proofs.refusal.Goals as goal

@@ -4,7 +4,6 @@ use Rattle.sketch.specs.declared.Sketch.{Sketch}
 use Rattle.sketch.specs.Sketches.{add}
 use Rattle.sketch.specs.Calls.{handed, add_on}
 use Rattle.seen.specs.Seen.{up_to}
-use borrow.Author.Rules.{rules}
 use Rattle.seen.proofs.up_to.Goals as goal
 
 pub returns : goal.returns

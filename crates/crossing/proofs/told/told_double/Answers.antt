@@ -1,7 +1,6 @@
 -- `crossing::told::told_double` meets its contract: a case for each answer. Assumes nothing.
 use mathlib.Core.Path.{refl}
 use lib.Ieee.{of_int, of_bits}
-use borrow.Author.Rules.{rules}
 use Rattle.crossing.proofs.told.told_double.Goals as goal
 
 pub returns-in-Exact : goal.returns-in-Exact

@@ -1,12 +1,10 @@
 -- `evening::tells::tell_count` meets its contract. Assumes nothing.
 use mathlib.Core.Path.{sym, ap, ◌∙◌}
-use borrow.Author.Tests.{not-true, not-false}
 use Rattle.lists.proofs.Stores.{stored_as}
 use Rattle.rule.specs.Refusals.{of_counted}
 use Rattle.find.specs.Finding.{count_on}
 use Rattle.evening.specs.Replies.{count_text}
 use Rattle.evening.proofs.Replying.{told_unopened, told-refused, told-answered}
-use borrow.Author.Rules.{rules}
 use Rattle.evening.proofs.tells.tell_count.Goals as goal
 
 pub returns-then-not-opened : goal.returns-then-not-opened

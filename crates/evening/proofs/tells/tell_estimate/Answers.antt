@@ -1,13 +1,11 @@
 -- `evening::tells::tell_estimate` meets its contract. Assumes nothing.
 use mathlib.Core.Path.{refl, ap, ◌∙◌}
 use mathlib.Core.List.{[]}
-use borrow.Author.Tests.{not-true, not-false}
 use Rattle.lists.proofs.Stores.{stored_as}
 use Rattle.rule.specs.Refusals.{answered}
 use Rattle.line.specs.Texts.{text_about}
 use Rattle.evening.specs.Replies.{estimate_text}
 use Rattle.evening.proofs.Replying.{told_unopened, told-answered, estimate_exact, estimate_about}
-use borrow.Author.Rules.{rules}
 use Rattle.evening.proofs.tells.tell_estimate.Goals as goal
 
 pub returns-then-not-opened : goal.returns-then-not-opened

@@ -9,7 +9,6 @@ use Rattle.sketch.proofs.Facts.{facts_sketch}
 use Rattle.crossing.specs.Crossing.{sketch_row}
 use Rattle.crossing.proofs.Crossings.{settings-of_row, row-kept_in, cells_lent}
 use Rattle.host.proofs.Outcomes.{adds-kept}
-use borrow.Author.Rules.{rules}
 use Rattle.host.proofs.stretches.add_known.Goals as goal
 
 pub add_to-kept-requires : goal.add_to-kept-requires

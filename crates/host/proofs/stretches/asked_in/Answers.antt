@@ -1,6 +1,5 @@
 -- `host::stretches::asked_in` meets its contract. Assumes nothing.
 use Rattle.crossing.proofs.Crossings.{settings-of_row}
-use borrow.Author.Rules.{rules}
 use Rattle.host.proofs.stretches.asked_in.Goals as goal
 
 pub returns : goal.returns

@@ -2,7 +2,6 @@
 use mathlib.Core.Path.{ap, ap₂}
 use mathlib.Core.Bool.{◌&&◌}
 use lib.Dec.{eqb}
-use borrow.Author.Rules.{rules}
 use Rattle.layout.specs.Shapes.{block_shaped}
 use Rattle.image.proofs.reader.block_shaped.Goals as goal
 

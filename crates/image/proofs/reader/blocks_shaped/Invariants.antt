@@ -1,10 +1,7 @@
 -- `image::reader::blocks_shaped` meets its contract: what is left to test decides as the whole does. Assumes nothing.
-use Prim.Native.Nat.{◌/◌, ◌+◌, ◌*◌, ◌-◌, ◌≤◌}
-use mathlib.Core.Path.{◌≡◌, sym, ap₂, ◌∙◌}
-use native.Mathlib.Omega.{arith}
-use lib.ListN.{length, drop}
-use borrow.Author.Tests.{not-true, not-false}
-use Rattle.layout.proofs.Turns.{block_length, shaped_off, shaped_on, shaped_end}
+use Prim.Native.Nat.{◌+◌, ◌*◌, ◌-◌, ◌≤◌}
+use mathlib.Core.Path.{◌≡◌}
+use lib.ListN.{drop}
 use Rattle.layout.specs.Images.{blocks_for}
 use Rattle.layout.specs.Shapes.{blocks_shaped}
 use Rattle.image.proofs.reader.blocks_shaped.Given as goal

@@ -1,8 +1,7 @@
 -- `image::reader::clear_row` meets its contract: after i turns the first i places are zero. Assumes nothing.
-use Prim.Native.Nat.{◌-◌, ◌≤◌}
-use mathlib.Core.Path.{◌≡◌, refl}
+use mathlib.Core.Path.{refl}
 use native.Mathlib.Omega.{arith}
-use lib.ListN.{length, take, replicate, length-set}
+use lib.ListN.{length-set}
 use Rattle.layout.proofs.Turns.{clear_more, clear_end}
 use Rattle.image.proofs.reader.clear_row.Goals as goal
 

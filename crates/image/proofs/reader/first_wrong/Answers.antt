@@ -1,11 +1,6 @@
 -- `image::reader::first_wrong` meets its contract: a search that has passed right checks only. Assumes nothing.
-use Prim.Native.Nat.{◌-◌, ◌≤◌}
-use mathlib.Core.Path.{◌≡◌}
 use mathlib.Core.Bool.{not}
 use native.Mathlib.Omega.{arith}
-use Rattle.lists.specs.Searches.{least}
-use Rattle.block.specs.Sums.{block_good}
-use Rattle.layout.specs.Shapes.{block_at, blocks_in, first_wrong}
 use Rattle.layout.proofs.Turns.{wrong_start, wrong_here, wrong_later, wrong_none, block_length}
 use mathlib.Core.Bool.{not}
 use mathlib.Core.Path.{ap}

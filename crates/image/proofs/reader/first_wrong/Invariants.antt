@@ -2,11 +2,9 @@
 use Prim.Native.Nat.{◌-◌, ◌≤◌}
 use mathlib.Core.Path.{◌≡◌}
 use mathlib.Core.Bool.{not}
-use native.Mathlib.Omega.{arith}
 use Rattle.lists.specs.Searches.{least}
 use Rattle.block.specs.Sums.{block_good}
 use Rattle.layout.specs.Shapes.{block_at, blocks_in, first_wrong}
-use Rattle.layout.proofs.Turns.{wrong_start, wrong_here, wrong_later, wrong_none, block_length}
 use Rattle.image.proofs.reader.first_wrong.Given as goal
 
 abbrev pub invariant-loop-i : goal.invariant-loop-i

@@ -2,7 +2,6 @@
 use mathlib.Core.Path.{ap, ◌∙◌}
 use native.Mathlib.Omega.{arith}
 use lib.Dec.{eqb}
-use borrow.Author.Rules.{rules}
 use Rattle.block.specs.Little.{number_of}
 use Rattle.layout.specs.Images.{mark}
 use Rattle.image.specs.Calls.{marked}

@@ -3,8 +3,6 @@ use Prim.Native.Nat.{ℕ}
 use mathlib.Core.Path.{◌≡◌, sym, ap, ◌∙◌}
 use native.Mathlib.Omega.{arith}
 use lib.ListN.{length, length-replicate}
-use borrow.Author.Tests.{not-true, not-false}
-use borrow.Author.Rules.{rules}
 use Rattle.layout.specs.Images.{fields_end, said_level, said_count}
 use Rattle.layout.proofs.Spelling.{spelled-parts}
 use Rattle.image.proofs.Answers.{marked-shape, marked-sketch, marked_done, shaped-size}

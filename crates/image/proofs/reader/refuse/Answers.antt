@@ -1,6 +1,5 @@
 -- `image::reader::refuse` meets its contract: the zero settings are `no_settings`'s. Assumes nothing.
 use mathlib.Core.Path.{ap}
-use borrow.Author.Rules.{rules}
 use Rattle.rule.specs.declared.Settings.{Settings}
 use Rattle.rule.specs.declared.answers.Taken.TheVariants.{Refused}
 use Rattle.image.proofs.reader.refuse.Goals as goal

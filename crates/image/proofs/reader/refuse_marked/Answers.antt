@@ -1,6 +1,5 @@
 -- `image::reader::refuse_marked` meets its contract: the settings decide which refusal it is. Assumes nothing.
 use mathlib.Core.Path.{sym, ap, ◌∙◌}
-use borrow.Author.Rules.{rules}
 use Rattle.rule.specs.Rule.{is_good}
 use Rattle.image.specs.Calls.{refused_header}
 use Rattle.image.proofs.Answers.{fault_image, fault_settings}

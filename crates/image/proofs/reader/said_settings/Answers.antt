@@ -1,5 +1,4 @@
 -- `image::reader::said_settings` meets its contract: five numbers read at their places. Assumes nothing.
-use borrow.Author.Rules.{rules}
 use Rattle.layout.specs.Images.{said_settings}
 use Rattle.image.proofs.reader.said_settings.Goals as goal
 

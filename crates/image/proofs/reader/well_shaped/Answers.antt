@@ -1,6 +1,4 @@
 -- `image::reader::well_shaped` meets its contract: a case for each test. Assumes nothing.
-use borrow.Author.Tests.{not-true, not-false}
-use borrow.Author.Rules.{rules}
 use Rattle.layout.specs.Images.{fields_end, said_count}
 use Rattle.image.proofs.Answers.{shape_count, shape_zeros, shape-all}
 use Rattle.image.proofs.reader.well_shaped.Goals as goal

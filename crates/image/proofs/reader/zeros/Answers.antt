@@ -1,9 +1,6 @@
 -- `image::reader::zeros` meets its contract: the bytes passed are zero just when the test still holds. Assumes nothing.
-use Prim.Native.Nat.{◌-◌, ◌≤◌}
-use mathlib.Core.Path.{◌≡◌, refl}
-use mathlib.Core.Bool.{◌&&◌}
+use mathlib.Core.Path.{refl}
 use native.Mathlib.Omega.{arith}
-use lib.ListN.{length, drop}
 use Rattle.lists.specs.Rows.{all_zero}
 use Rattle.rows.proofs.Walks.{test_on, test_end}
 use Rattle.image.proofs.reader.zeros.Goals as goal

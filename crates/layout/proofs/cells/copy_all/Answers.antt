@@ -1,11 +1,9 @@
 -- `layout::cells::copy_all` meets its contract: after i turns the cells of i blocks are copied. Assumes nothing.
-use Prim.Native.Nat.{◌*◌, ◌-◌, ◌≤◌}
-use mathlib.Core.Path.{◌≡◌, sym, ap, ◌∙◌}
+use Prim.Native.Nat.{◌*◌}
+use mathlib.Core.Path.{sym, ap, ◌∙◌}
 use native.Mathlib.Omega.{arith}
-use lib.ListN.{length, take}
-use Rattle.lists.specs.Rows.{pad}
+use lib.ListN.{length}
 use Rattle.layout.proofs.Turns.{row-length, cells_part, cells_turn, cells_end}
-use Rattle.layout.specs.Images.{blocks_for, cells_in}
 use Rattle.layout.proofs.cells.copy_all.Goals as goal
 
 pub loop-i-init : goal.loop-i-init

@@ -1,8 +1,7 @@
 -- `layout::cells::copy_cells` meets its contract: after j turns the first j cells are copied. Assumes nothing.
-use Prim.Native.Nat.{◌-◌, ◌≤◌}
 use mathlib.Core.Path.{◌≡◌, refl, sym, ap, ◌∙◌}
 use native.Mathlib.Omega.{arith}
-use lib.ListN.{length, take, drop, length-set}
+use lib.ListN.{length, drop, length-set}
 use lib.Seq.{take_all}
 use Rattle.layout.specs.Images.{numbers_in}
 use Rattle.layout.proofs.Turns.{copy_more}

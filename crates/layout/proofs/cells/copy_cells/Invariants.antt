@@ -1,11 +1,8 @@
 -- `layout::cells::copy_cells` meets its contract: after j turns the first j cells are copied. Assumes nothing.
 use Prim.Native.Nat.{◌-◌, ◌≤◌}
-use mathlib.Core.Path.{◌≡◌, refl, sym, ap, ◌∙◌}
-use native.Mathlib.Omega.{arith}
-use lib.ListN.{length, take, drop, length-set}
-use lib.Seq.{take_all}
+use mathlib.Core.Path.{◌≡◌}
+use lib.ListN.{length, take, drop}
 use Rattle.layout.specs.Images.{numbers_in}
-use Rattle.layout.proofs.Turns.{copy_more}
 use Rattle.layout.proofs.cells.copy_cells.Given as goal
 
 abbrev pub invariant-loop-j : goal.invariant-loop-j

@@ -1,6 +1,5 @@
 -- `layout::cells::number_at` meets its contract: a number of four bytes is two words. Assumes nothing.
 use native.Mathlib.Omega.{arith}
-use borrow.Author.Rules.{rules}
 use Rattle.layout.proofs.Fields.{number-words}
 use Rattle.layout.proofs.cells.number_at.Goals as goal
 

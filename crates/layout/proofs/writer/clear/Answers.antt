@@ -1,8 +1,7 @@
 -- `layout::writer::clear` meets its contract: after i turns the first i places are zero. Assumes nothing.
-use Prim.Native.Nat.{◌-◌, ◌≤◌}
-use mathlib.Core.Path.{◌≡◌, refl}
+use mathlib.Core.Path.{refl}
 use native.Mathlib.Omega.{arith}
-use lib.ListN.{length, take, replicate, length-set}
+use lib.ListN.{length, length-set}
 use Rattle.layout.proofs.Turns.{clear_more, clear_end}
 use Rattle.layout.proofs.writer.clear.Goals as goal
 

@@ -1,9 +1,7 @@
 -- `layout::writer::clear` meets its contract: after i turns the first i places are zero. Assumes nothing.
 use Prim.Native.Nat.{◌-◌, ◌≤◌}
-use mathlib.Core.Path.{◌≡◌, refl}
-use native.Mathlib.Omega.{arith}
-use lib.ListN.{length, take, replicate, length-set}
-use Rattle.layout.proofs.Turns.{clear_more, clear_end}
+use mathlib.Core.Path.{◌≡◌}
+use lib.ListN.{length, take, replicate}
 use Rattle.layout.proofs.writer.clear.Given as goal
 
 abbrev pub invariant-loop-i : goal.invariant-loop-i

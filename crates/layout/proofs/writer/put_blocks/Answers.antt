@@ -1,9 +1,8 @@
 -- `layout::writer::put_blocks` meets its contract: after i turns the first i blocks are written. Assumes nothing.
-use Prim.Native.Nat.{◌/◌, ◌+◌, ◌*◌, ◌-◌, ◌≤◌}
+use Prim.Native.Nat.{◌/◌, ◌*◌, ◌-◌}
 use mathlib.Core.Path.{◌≡◌, refl, ap}
-use mathlib.Core.List.{◌++◌}
 use native.Mathlib.Omega.{arith}
-use lib.ListN.{length-take, length, take, drop}
+use lib.ListN.{length-take, length, drop}
 use Rattle.layout.proofs.Turns.{block_length, blocks_turn, blocks_end}
 use Rattle.layout.specs.Images.{blocks_for, cell_blocks}
 use Rattle.layout.proofs.writer.put_blocks.Goals as goal

@@ -1,10 +1,8 @@
 -- `layout::writer::put_blocks` meets its contract: after i turns the first i blocks are written. Assumes nothing.
-use Prim.Native.Nat.{◌/◌, ◌+◌, ◌*◌, ◌-◌, ◌≤◌}
-use mathlib.Core.Path.{◌≡◌, refl, ap}
+use Prim.Native.Nat.{◌+◌, ◌*◌, ◌-◌, ◌≤◌}
+use mathlib.Core.Path.{◌≡◌}
 use mathlib.Core.List.{◌++◌}
-use native.Mathlib.Omega.{arith}
-use lib.ListN.{length-take, length, take, drop}
-use Rattle.layout.proofs.Turns.{block_length, blocks_turn, blocks_end}
+use lib.ListN.{length, take, drop}
 use Rattle.layout.specs.Images.{blocks_for, cell_blocks}
 use Rattle.layout.proofs.writer.put_blocks.Given as goal
 

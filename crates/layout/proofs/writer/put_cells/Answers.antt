@@ -1,10 +1,8 @@
 -- `layout::writer::put_cells` meets its contract: after j turns the first j cells are stored. Assumes nothing.
-use Prim.Native.Nat.{◌-◌, ◌≤◌}
 use mathlib.Core.Path.{◌≡◌, sym, ap, ◌∙◌}
 use native.Mathlib.Omega.{arith}
 use lib.Seq.{take_all}
 use lib.ListN.{length, take}
-use Rattle.lists.specs.Rows.{placed}
 use Rattle.lists.proofs.Places.{placed-none}
 use Rattle.block.specs.Sums.{sealed}
 use Rattle.layout.specs.Images.{cell_bytes}

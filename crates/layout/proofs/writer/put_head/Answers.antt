@@ -6,7 +6,6 @@ use Prim.{tt}
 use lib.Dec.{lit≤}
 use native.Mathlib.Omega.{arith}
 use lib.ListN.{length}
-use borrow.Author.Rules.{rules}
 use Rattle.lists.specs.Rows.{placed}
 use Rattle.block.specs.Little.{number_of}
 use Rattle.block.specs.Sums.{sealed}

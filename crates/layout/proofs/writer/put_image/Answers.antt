@@ -3,7 +3,6 @@ use Prim.{tt}
 use mathlib.Core.Path.{refl}
 use mathlib.Core.List.{[]}
 use lib.Dec.{lit≤}
-use borrow.Author.Rules.{rules}
 use Rattle.layout.specs.Images.{mark}
 use Rattle.layout.proofs.Puts.{image_put}
 use Rattle.layout.proofs.writer.put_image.Goals as goal

@@ -1,6 +1,5 @@
 -- `layout::writer::put_number` meets its contract: two words stored one after the other. Assumes nothing.
 use native.Mathlib.Omega.{arith}
-use borrow.Author.Rules.{rules}
 use Rattle.layout.proofs.Puts.{words_placed}
 use Rattle.layout.proofs.writer.put_number.Goals as goal
 

@@ -2,7 +2,6 @@
 use mathlib.Core.Path.{refl, ◌∙◌}
 use mathlib.Core.List.{◌++◌}
 use native.Mathlib.Omega.{arith}
-use borrow.Author.Rules.{rules}
 use Rattle.block.specs.Little.{bytes_of}
 use Rattle.layout.specs.Images.{settings_bytes}
 use Rattle.layout.proofs.Puts.{put_next, word-placed}

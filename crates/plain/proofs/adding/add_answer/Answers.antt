@@ -1,6 +1,4 @@
 -- `plain::adding::add_answer` meets its contract. Assumes nothing.
-use borrow.Author.Rules.{rules}
-use borrow.Author.Tests.{not-true, not-false}
 use Rattle.find.proofs.Checks.{denied, granted}
 use Rattle.plain.proofs.Calls.{plain_unknown, plain_above, plain_outside, plain_done}
 use Rattle.plain.proofs.adding.add_answer.Goals as goal

@@ -1,11 +1,9 @@
 -- `plain::adding::count_sample` meets its contract. So far it has counted what the walk has seen; the cells left fall. Assumes nothing.
-use Prim.Native.Nat.{suc, ◌-◌, ◌≤◌}
-use mathlib.Core.Path.{◌≡◌, sym, ap, ◌∙◌}
-use mathlib.Core.Logic.{⊎_elim}
+use mathlib.Core.Path.{sym, ap, ◌∙◌}
 use native.Mathlib.Omega.{arith}
 use lib.ListN.{length}
 use Rattle.rule.specs.Samples.{sample}
-use Rattle.plain.proofs.Walks.{seen, seen_none, seen_all, so, count_on_lem, count_off}
+use Rattle.plain.proofs.Walks.{seen_none, seen_all, so, count_on_lem, count_off}
 use Rattle.plain.proofs.Sampling.{in_sample}
 use Rattle.plain.proofs.adding.count_sample.Goals as goal
 use Rattle.plain.proofs.adding.count_sample.Goals.{then-in_sample, else-in_sample}

@@ -4,12 +4,11 @@ use mathlib.Core.Bool.{true}
 use native.Mathlib.Omega.{arith}
 use lib.Seq.{length-take-le}
 use Rattle.lists.specs.Lists.{listed}
-use Rattle.rule.specs.Cells.{Cells, ◌∪◌, interval}
+use Rattle.rule.specs.Cells.{◌∪◌, interval}
 use Rattle.rule.specs.Samples.{fits}
 use Rattle.rule.proofs.Samples.{fits-few, lowest-fits}
 use Rattle.settle.specs.Settling.{kept_in}
 use Rattle.settle.proofs.Settles.{zeros_sized, keeps_stored, stored-few}
-use borrow.Author.Rules.{rules}
 use Rattle.plain.proofs.adding.fill.Goals as goal
 
 pub slice_bounds-first_level-end : goal.slice_bounds-first_level-end

@@ -1,12 +1,9 @@
 -- `plain::adding::first_level` meets its contract. No lower level fits; the levels left up to the top fall. Assumes nothing.
 use Prim.Native.Nat.{◌-◌}
-use native.Mathlib.Omega.{arith}
 use Rattle.lists.specs.Lists.{listed}
 use Rattle.rule.specs.Cells.{◌∪◌, interval}
 use Rattle.rule.specs.Rule.{top}
-use Rattle.rule.proofs.Passing.{top_small}
-use Rattle.settle.proofs.Searches.{Raising, raise_start, raise_room, raise_on, raise_end}
-use Rattle.plain.proofs.Sampling.{too_many, few_enough}
+use Rattle.settle.proofs.Searches.{Raising}
 use Rattle.plain.proofs.adding.first_level.Given as goal
 
 abbrev pub invariant-loop-settings : goal.invariant-loop-settings

@@ -1,13 +1,9 @@
 -- `plain::adding::gather` meets its contract. So far it has stored what the walk has seen; the cells left fall. Assumes nothing.
-use Prim.Native.Nat.{suc, ◌-◌, ◌<◌, ◌≤◌}
-use mathlib.Core.Path.{◌≡◌, refl, sym}
-use mathlib.Core.Logic.{⊎_elim}
-use native.Mathlib.Omega.{arith}
-use lib.ListN.{length, length-set}
+use Prim.Native.Nat.{suc, ◌-◌, ◌≤◌}
+use mathlib.Core.Path.{◌≡◌}
+use lib.ListN.{length}
 use Rattle.lists.specs.Rows.{Stored}
-use Rattle.lists.proofs.Stores.{stored-none, stored_as}
-use Rattle.rule.specs.Samples.{sample}
-use Rattle.plain.proofs.Walks.{seen, seen_none, seen_all, so, store_room, store_on, store_off}
+use Rattle.plain.proofs.Walks.{seen}
 use Rattle.plain.proofs.Sampling.{in_sample}
 use Rattle.plain.proofs.adding.gather.Given as goal
 

@@ -2,7 +2,6 @@
 use mathlib.Core.Path.{◌∙◌}
 use Rattle.find.proofs.Checks.{denied, granted}
 use Rattle.plain.proofs.Sampling.{sample_left, sample-added, sample-kept}
-use borrow.Author.Rules.{rules}
 use Rattle.plain.proofs.adding.in_sample.Goals as goal
 
 pub returns-then-not-passes : goal.returns-then-not-passes

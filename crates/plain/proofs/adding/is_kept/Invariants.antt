@@ -1,11 +1,8 @@
 -- `plain::adding::is_kept` meets its contract. x is kept just where it is one of the cells not looked at yet. Assumes nothing.
 use Prim.Native.Nat.{◌-◌, ◌≤◌}
-use mathlib.Core.Path.{◌≡◌, refl, sym, ap, ◌∙◌}
-use mathlib.Core.List.{List}
-use native.Mathlib.Omega.{arith}
-use lib.ListN.{length, drop, drop_of_length-le}
+use mathlib.Core.Path.{◌≡◌}
+use lib.ListN.{length, drop}
 use Rattle.lists.specs.Lists.{listed}
-use Rattle.plain.proofs.Walks.{kept_here, kept_on}
 use Rattle.plain.proofs.adding.is_kept.Given as goal
 
 abbrev pub invariant-loop-i : goal.invariant-loop-i
