@@ -2,7 +2,7 @@
 use Rattle.paper.proofs.highest.Given as goal
 
 abbrev pub invariant-loop-level : goal.invariant-loop-level
-invariant-loop-level g l = Unit {0}
+invariant-loop-level l = Unit {0}
 
 abbrev pub decreases-loop-level : goal.decreases-loop-level
-decreases-loop-level g l = l.level
+decreases-loop-level l = l.level
