@@ -1,6 +1,5 @@
 -- `demands::engines::adds` meets its contract: the two engines' promises allow one outcome. Assumes nothing.
 use Rattle.plain.proofs.Same.{add_same}
-use borrow.Author.Rules.{rules}
 use Rattle.demands.proofs.engines.adds.Goals as goal
 
 pub returns : goal.returns

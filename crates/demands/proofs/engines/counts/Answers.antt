@@ -1,6 +1,5 @@
 -- `demands::engines::counts` meets its contract: the two engines' promises allow one outcome. Assumes nothing.
 use Rattle.plain.proofs.Same.{count_same}
-use borrow.Author.Rules.{rules}
 use Rattle.demands.proofs.engines.counts.Goals as goal
 
 pub returns : goal.returns

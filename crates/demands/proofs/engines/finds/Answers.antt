@@ -1,6 +1,5 @@
 -- `demands::engines::finds` meets its contract: the two engines' promises allow one outcome. Assumes nothing.
 use Rattle.plain.proofs.Same.{next_same}
-use borrow.Author.Rules.{rules}
 use Rattle.demands.proofs.engines.finds.Goals as goal
 
 pub returns : goal.returns
