@@ -1,6 +1,6 @@
 -- The round trips of images, and that the promises are tight.
 --     image-bytes     an image is bytes; `sketch-length` in `layout`, Limits, says how many
---     read-back       reading the image of a sketch gives that sketch
+--     read_back       reading the image of a sketch gives that sketch
 --     write_back      an accepted image, written out again, gives the same bytes
 --     one-image       no two sketches have the same image
 --     write_tight, read_tight     two outcomes that a promise allows coincide

@@ -1,5 +1,5 @@
 -- The laws of the first bad place.
---     Searched                 what the search keeps, turn by turn
+--     Searched: first_here, first_on, first_end      the search, turn by turn
 --     bad_all, good-all, all_by_place     by the first bad place it is known whether all are in range
 --     bad_there, good-before   the stretch at the first bad place is bad, and every one before it is in range
 --     judged_unknown, judged_bad, judged_done, judged_row      the answers by the first bad place, and that they are the row's
@@ -11,7 +11,8 @@ use mathlib.Core.List.{List, [], ◌∷◌}
 use mathlib.Core.Logic.{⊎_elim}
 use native.Mathlib.Omega.{arith}
 use lib.Dec.{leb}
-use lib.ListN.{length, get_or, drop}
+use lib.ListN.{length, get_or, drop, drop_of_length-le}
+use lib.Seq.{drop-cons}
 use borrow.Author.Tests.{leb-true, leb-false, le-leb, lt-leb}
 use Rattle.rule.specs.declared.Settings.{Settings}
 use Rattle.lists.proofs.Tests.{tested}
@@ -29,6 +30,21 @@ module _ (s : Settings) (ts : List Stretch) where
   -- every stretch before i is in range
   abbrev pub Searched : ℕ → Type 0
   Searched i = i + first_bad s (drop i ts) ≡ first_bad s ts
+
+  module _ (i : ℕ) (l : i < length ts) (h : Searched i) where
+    pub first_here : within s (get_or ts i none) ≡ false → i ≡ first_bad s ts
+    first_here e =
+        let d : first_bad s (drop i ts) ≡ 0 = ap (first_bad s) (drop-cons ts i none l) ∙ rw e in
+        omega (arith, d, h)
+
+    pub first_on : within s (get_or ts i none) ≡ true → Searched (i + 1)
+    first_on e =
+        let d : first_bad s (drop i ts) ≡ suc (first_bad s (drop (suc i) ts)) = ap (first_bad s) (drop-cons ts i none l) ∙ rw e in
+        let k : first_bad s (drop (i + 1) ts) ≡ first_bad s (drop (suc i) ts) = ap (λ (j : ℕ). first_bad s (drop j ts)) {x = i + 1} {y = suc i} (omega arith) in
+        omega (arith, d, k, h)
+
+  pub first_end : (i : ℕ) → Searched i → length ts ≤ i → i ≡ first_bad s ts
+  first_end i h l = let d : first_bad s (drop i ts) ≡ 0 = ap (first_bad s) (drop_of_length-le ts {i = i} l) in omega (arith, d, h)
 
 -- the first bad place and the tests
 pub bad_all : (s : Settings) (ts : List Stretch) → first_bad s ts < length ts → all_in s ts ≡ false
