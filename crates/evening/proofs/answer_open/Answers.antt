@@ -9,11 +9,11 @@ returns-in-Refused c =
     let k = c in
     let a = k in
     let h = a.before.before.before.open-changed.ensures in
-    tells_as (open_refused _ _ _ (sym h.answer ∙ ap of_answer a.in-Refused.is)) k.refuse.ensures
+    tells_as (open_refused c.args.pot _ _ (sym h.answer ∙ ap of_answer a.in-Refused.is)) k.refuse.ensures
 
 pub returns-in-Done : goal.returns-in-Done
 returns-in-Done c =
     let k = c in
     let a = k in
     let h = a.before.before.before.open-changed.ensures in
-    tells_as (open_kept _ _ _ (sym h.answer ∙ ap of_answer a.in-Done.is) h.sketch) k.keep.ensures
+    tells_as (open_kept c.args.pot _ _ (sym h.answer ∙ ap of_answer a.in-Done.is) h.sketch) k.keep.ensures
