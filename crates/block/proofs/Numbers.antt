@@ -1,14 +1,14 @@
 -- Numbers as bytes: a number is its bytes, and bytes are their number. Assumes nothing.
-use Prim.Native.Nat.{ℕ, zero, suc, ◌+◌, ◌*◌, ◌/◌, ◌%◌, ◌^◌, ◌<◌, ◌≤◌}
+use Prim.Native.Nat.{ℕ, zero, suc, ◌+◌, ◌*◌, ◌-◌, ◌/◌, ◌%◌, ◌^◌, ◌<◌, ◌≤◌}
 use Prim.{tt}
 use mathlib.Core.Path.{◌≡◌, refl, ap, ◌∙◌}
-use mathlib.Core.List.{List, [], ◌∷◌, ◌++◌}
+use mathlib.Core.List.{List, [], ◌∷◌, ◌++◌, append_assoc}
 use native.Mathlib.Nat.{mod-lt, div-add-mod', div-lt_iff_lt-mul, add-zero, pow-zero, pow-suc}
-use native.Mathlib.Numerals.{add-one}
 use native.Mathlib.Omega.{arith}
 use lib.Dec.{lit<}
-use lib.ListN.{length, get_or, take, drop, set, length-drop}
-use lib.Seq.{get_or-drop, take-append-le, drop-append-le, take_at, drop_at, sets-eq}
+use lib.ListN.{length, get_or, take, drop, length-drop}
+use lib.Seq.{get_or-drop, take-append-le, drop-append-le, take_at, drop_at, drop-drop}
+use borrow.Rule.Slice.PartMut.{put_mid}
 use Rattle.block.specs.Little.{Bytes, bytes_of, number_of, number_at}
 
 pub bytes-length : (k x : ℕ) → length (bytes_of k x) ≡ k
@@ -75,14 +75,20 @@ two_front [] = refl
 two_front (x ∷ []) = refl
 two_front (x ∷ y ∷ s) = omega arith
 
+-- the same of the two bytes alone
+pub two_bytes : (s : List ℕ) → number_of (take 2 s) ≡ get_or (take 2 s) 0 0 + 256 * get_or (take 2 s) 1 0
+unfolding number_of
+two_bytes [] = refl
+two_bytes (x ∷ []) = refl
+two_bytes (x ∷ y ∷ s) = omega arith
+
 -- a word by its two bytes
 pub number_two : (i : ℕ) (s : List ℕ) → number_at 2 i s ≡ get_or s i 0 + 256 * get_or s (i + 1) 0
 number_two i s = simp (two_front, get_or-drop, add-zero)
 
--- a word stored byte by byte
-pub word-stored : (s : List ℕ) (i x : ℕ) → i + 2 ≤ length s → x < 65536
-    → set (set s i (x % 256)) (i + 1) (x / 256) ≡ take i s ++ bytes_of 2 x ++ drop (i + 2) s
+-- a word written over two bytes
+pub word_over : (i x : ℕ) (s w : List ℕ) → w ≡ x % 256 ∷ x / 256 % 256 ∷ [] → put_mid i (i + 2 - i) s w ≡ take i s ++ bytes_of 2 x ++ drop (i + 2) s
 unfolding bytes_of
-word-stored s i x h l =
-    let e : x / 256 % 256 ≡ x / 256 = omega arith in
-    rw (add-one i, e, sets-eq (x % 256 ∷ x / 256 ∷ []) s i h)
+word_over i x s w h =
+    let e : i + 2 - i ≡ 2 = omega arith in
+    rw (h, e, drop-drop) (simp append_assoc)

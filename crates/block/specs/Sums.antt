@@ -1,5 +1,5 @@
 -- The two check sums of a block of 512 bytes. Assumes nothing.
-use Rattle.std.specs.Prelude.{ℕ, zero, suc, ◌+◌, ◌*◌, ◌-◌, ◌%◌, ◌<◌, ◌≡◌, Bool, ◌&&◌, List, ◌++◌, eqb, get_or}
+use Rattle.std.specs.Prelude.{ℕ, zero, suc, ◌+◌, ◌*◌, ◌-◌, ◌%◌, Bool, ◌&&◌, List, ◌++◌, eqb}
 use Rattle.block.specs.Little.{bytes_of, number_at}
 
 -- word i of 16 bits, from word 1 at bytes 0 and 1
@@ -18,10 +18,6 @@ plain_of s = sum_to (λ i. word s i) 254 % 65535
 -- the sum of (255 - i) · wi, modulo 65535 (RULES: Image)
 unfoldable pub weighted_of : List ℕ → ℕ
 weighted_of s = sum_to (λ i. (255 - i) * word s i) 254 % 65535
-
--- a row of n numbers that falls by one from n to 1
-abbrev pub Falls : ℕ → List ℕ → Type 0
-Falls n row = (k : ℕ) → k < n → get_or row k 0 ≡ n - k
 
 -- bytes 508 and 509 hold the first sum, 510 and 511 the second; a sum is below 65535, so a stored 65535 is wrong
 unfoldable pub block_good : List ℕ → Bool

@@ -1,14 +1,14 @@
 // Standard input and output for an evening: input is read in pieces of 65,536 bytes, in constant memory.
 // No contract can say what is read or written; the evening after a piece is exact.
 //
-// A read or a write that a signal interrupted is tried again. One that fails is said on standard
-// error with its cause, and the run ends there.
+// A read or a write that a signal interrupted is tried again. One that fails ends the run, and is said
+// on standard error with its cause.
 //
-// A proved loop has to end, and nothing says that the input or the signals do. So such a loop counts
-// its turns down, from a number that no run uses up.
+// A proved loop has to end, and nothing says that the input or the signals do. So such a loop runs over
+// a count that no run uses up.
 #![tactic(auto)]
 
-ghost use Rattle.std.specs.Prelude.{◌≡◌, ◌≤◌, length, IfSome};
+ghost use Rattle.std.specs.Prelude.{◌≡◌, ◌≤◌, length, IfOk};
 ghost use Rattle.evening.specs.Runs.{Sitting};
 ghost use Rattle.console.specs.Serving.{served};
 
@@ -19,19 +19,102 @@ use std::io::{Cursor, ErrorKind, Read, Write};
 // How many bytes are read at a time, and how many of answers are kept before they are written.
 const PIECE: usize = 65536;
 
-// The evening after a turn, and whether the run goes on.
-#[derive(Clone, Copy)]
-struct Turn {
-    evening: Evening,
-    more: bool,
+// What ended a run before the end of its input.
+#[derive(Drop)]
+enum Failure {
+    Reading(io::Error),
+    Writing(io::Error),
 }
 
-// Whether the call that has just answered so was interrupted by a signal, before it moved a byte.
-fn interrupted(got: &io::Result<usize>) -> bool {
-    match got {
-        Ok(_) => false,
-        Err(cause) => cause.kind() == ErrorKind::Interrupted,
+// One read: how many bytes it put at the start of the row, 0 at the end of the input.
+fn read_some<R: Read>(input: &mut R, row: &mut [u8]) -> io::Result<usize>
+    ensures { IfOk result (λ n. n ≤ length row.new) }
+{
+    for _ in 0..u64::MAX {
+        match input.read(row) {
+            Err(cause) if cause.kind() == ErrorKind::Interrupted => {}
+            got => return got,
+        }
     }
+    input.read(row)
+}
+
+// One write: how many of the bytes it took. The loop is `read_some`'s again: one for both, over a closure,
+// would need a contract on what its last call moved, and be no plainer.
+fn write_some<W: Write>(output: &mut W, bytes: &[u8]) -> io::Result<usize>
+    ensures { IfOk result (λ n. n ≤ length bytes.now) }
+{
+    for _ in 0..u64::MAX {
+        match output.write(bytes) {
+            Err(cause) if cause.kind() == ErrorKind::Interrupted => {}
+            got => return got,
+        }
+    }
+    output.write(bytes)
+}
+
+// Writes all of the bytes. std's `write_all` has other words for a write that takes none of them.
+fn write_all<W: Write>(output: &mut W, bytes: &[u8]) -> io::Result<()> {
+    let mut rest = bytes;
+    while !rest.is_empty() {
+        let some = write_some(output, rest)?;
+        if some == 0 {
+            return Err(io::Error::from_raw_os_error(0));
+        }
+        rest = &rest[some..];
+    }
+    Ok(())
+}
+
+// Feeds a whole piece. The answers are written each time that the room for them is used up.
+fn serve_piece<W: Write>(
+    output: &mut W,
+    evening: Evening,
+    input: &[u8],
+    out: &mut [u8],
+) -> io::Result<Evening>
+    requires { Sitting evening × (40 ≤ length out.old) }
+    ensures evening { IfOk result (λ e. e ≡ served evening input.now) }
+    ensures sitting { IfOk result Sitting }
+{
+    let mut s = evening;
+    let mut rest = input;
+    while !rest.is_empty() {
+        let fed = evening::feed(s, rest, out);
+        write_all(output, &out[..fed.written])?;
+        rest = &rest[fed.taken..];
+        s = fed.evening;
+    }
+    Ok(s)
+}
+
+// Answers a last line without a newline.
+fn serve_rest<W: Write>(output: &mut W, evening: Evening, out: &mut [u8]) -> io::Result<()>
+    requires { Sitting evening × (40 ≤ length out.old) }
+{
+    let n = evening::finish(evening, out);
+    write_all(output, &out[..n])
+}
+
+// Piece after piece, and at the end of the input the rest. Where a read failed there may be more of the
+// line, so that it isn't answered.
+fn serve_all<R: Read, W: Write>(
+    input: &mut R,
+    output: &mut W,
+    out: &mut [u8],
+) -> Result<(), Failure>
+    requires { 40 ≤ length out.old }
+{
+    let mut piece = [0u8; PIECE];
+    let mut s = evening::begin();
+    for _ in 0..u64::MAX {
+        let n = read_some(input, &mut piece).map_err(Failure::Reading)?;
+        if n == 0 {
+            break;
+        }
+        s = serve_piece(output, s, &piece[..n], out).map_err(Failure::Writing)?;
+    }
+    serve_rest(output, s, out).map_err(Failure::Writing)
 }
 
 // Says on standard error what failed, and why in the system's words. These are printed with the
@@ -45,155 +128,15 @@ fn fail<E: Eprint>(errors: &E, what: &str, cause: io::Error) {
         Some((words, _)) => words,
         None => text,
     };
-    let _ = eprintln!(errors; "{what}: {words}");
-}
-
-// One read. It answers how many bytes it put at the start of the row: 0 at the end of the input, and
-// nothing where it failed.
-fn read_some<R: Read, E: Eprint>(input: &mut R, errors: &E, row: &mut [u8]) -> Option<usize>
-    ensures { IfSome result (λ n. n ≤ length row.new) }
-{
-    let mut got = input.read(row);
-    let mut turns = u64::MAX;
-    while turns > 0 && interrupted(&got) {
-        turns = turns - 1;
-        got = input.read(row);
-    }
-    match got {
-        Ok(n) => Some(n),
-        Err(cause) => {
-            fail(errors, "potcount: reading failed", cause);
-            None
-        }
-    }
-}
-
-// One write. It answers how many of the bytes it took: none of them where it failed.
-fn write_some<W: Write, E: Eprint>(output: &mut W, errors: &E, bytes: &[u8]) -> usize
-    ensures { result ≤ length bytes.now }
-{
-    let mut got = output.write(bytes);
-    let mut turns = u64::MAX;
-    while turns > 0 && interrupted(&got) {
-        turns = turns - 1;
-        got = output.write(bytes);
-    }
-    match got {
-        Ok(0) => {
-            fail(
-                errors,
-                "potcount: writing failed",
-                io::Error::from_raw_os_error(0),
-            );
-            0
-        }
-        Ok(n) => n,
-        Err(cause) => {
-            fail(errors, "potcount: writing failed", cause);
-            0
-        }
-    }
-}
-
-// Writes all of the bytes, and answers whether it did.
-fn write_all<W: Write, E: Eprint>(output: &mut W, errors: &E, bytes: &[u8]) -> bool {
-    let mut done = 0;
-    while done < bytes.len() {
-        let some = write_some(output, errors, &bytes[done..]);
-        if some == 0 {
-            return false;
-        }
-        done = done + some;
-    }
-    true
-}
-
-// Feeds a whole piece. The answers are written each time that the room for them is used up.
-fn serve_piece<W: Write, E: Eprint>(
-    output: &mut W,
-    errors: &E,
-    evening: Evening,
-    input: &[u8],
-    out: &mut [u8],
-) -> Turn
-    requires { Sitting evening × (40 ≤ length out.old) }
-    ensures { result.evening ≡ served evening input.now result.more }
-{
-    let mut s = evening;
-    let mut at = 0;
-    while at < input.len() {
-        let fed = evening::feed(s, &input[at..], out);
-        let written = fed.written;
-        if !write_all(output, errors, &out[..written]) {
-            return Turn {
-                evening,
-                more: false,
-            };
-        }
-        at = at + fed.taken;
-        s = fed.evening;
-    }
-    Turn {
-        evening: s,
-        more: true,
-    }
-}
-
-// Answers a last line without a newline.
-fn serve_rest<W: Write, E: Eprint>(output: &mut W, errors: &E, evening: Evening, out: &mut [u8])
-    requires { Sitting evening × (40 ≤ length out.old) }
-{
-    let n = evening::finish(evening, out);
-    write_all(output, errors, &out[..n]);
-}
-
-// Reads one piece and serves it, or at the end of the input the rest. Where the read failed there
-// may be more of the line, so that it isn't answered.
-fn serve_some<R: Read, W: Write, E: Eprint>(
-    input: &mut R,
-    output: &mut W,
-    errors: &E,
-    evening: Evening,
-    out: &mut [u8],
-) -> Turn
-    requires { Sitting evening × (40 ≤ length out.old) }
-    ensures { Sitting result.evening }
-{
-    let mut piece = [0u8; PIECE];
-    match read_some(input, errors, &mut piece) {
-        Some(0) => serve_rest(output, errors, evening, out),
-        Some(n) => return serve_piece(output, errors, evening, &piece[..n], out),
-        None => {}
-    }
-    Turn {
-        evening,
-        more: false,
-    }
-}
-
-// Piece after piece, to the end of the run.
-fn serve_all<R: Read, W: Write, E: Eprint>(
-    input: &mut R,
-    output: &mut W,
-    errors: &E,
-    out: &mut [u8],
-)
-    requires { 40 ≤ length out.old }
-{
-    let mut s = evening::begin();
-    let mut turns = u64::MAX;
-    while turns > 0 {
-        let turn = serve_some(input, output, errors, s, out);
-        s = turn.evening;
-        if !turn.more {
-            return;
-        }
-        turns = turns - 1;
-    }
+    let _ = eprintln!(errors; "potcount: {what} failed: {words}");
 }
 
 // The program: each line of the input is answered on the output, and what fails is said on `errors`.
 pub fn serve<R: Read, W: Write, E: Eprint>(input: &mut R, output: &mut W, errors: &E) {
     let mut out = [0u8; PIECE];
-    serve_all(input, output, errors, &mut out);
+    match serve_all(input, output, &mut out) {
+        Ok(()) => {}
+        Err(Failure::Reading(cause)) => fail(errors, "reading", cause),
+        Err(Failure::Writing(cause)) => fail(errors, "writing", cause),
+    }
 }

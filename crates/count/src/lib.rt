@@ -1,6 +1,8 @@
 // The range count of Pavan and Tirthapura: how many of the first n elements of an arithmetic
 // progression with difference d, taken modulo m, lie below l. Each call is on modulus d with a
-// difference of at most half of d, so there are no more calls than d has bits.
+// difference of at most half of d, so there are no more calls than d has bits. The two functions that
+// call each other are a form that the rules name, though all but their first lines is the same; their
+// five numbers are the paper's, and a call has other ones, so they stand as parameters.
 #![tactic(auto)]
 
 ghost use Rattle.std.specs.Prelude.{◌≡◌, ℕ, ◌+◌, ◌-◌, ◌*◌, ◌/◌, ◌%◌, ◌<◌, ◌≤◌, min};
@@ -26,22 +28,14 @@ struct Rounds {
     before: u64,
 }
 
-fn lesser(a: u64, b: u64) -> u64
-    ensures { result ≡ min a b }
-{
-    if a < b { a } else { b }
-}
-
-// Of the first t elements of a round whose foot is f, those below l, which is q * d + r with r < d.
+// Of the first t elements of a round whose foot is f, those below l, which is q * d + r with r < d. The
+// comparison is added as a number, as a branch on it could not be foretold.
+#[tactic(auto, unfolding(crate::specs::Hits::hit))]
 fn part(q: u64, r: u64, f: u64, t: u64) -> u64
     requires { q ≤ 4000000000 }
     ensures { result ≡ min t (q + hit f r) }
 {
-    if f < r {
-        lesser(t, q + 1)
-    } else {
-        lesser(t, q)
-    }
+    (q + u64::from(f < r)).min(t)
 }
 
 // The last of n elements, not yet reduced modulo m.
@@ -57,6 +51,7 @@ fn end(m: u64, d: u64, u: u64, n: u64) -> u64
 }
 
 // The count where the difference is 0: all are at u.
+#[tactic(auto, unfolding(crate::specs::Hits::hit))]
 fn still(u: u64, n: u64, l: u64) -> u64
     ensures { result ≡ n * hit u l }
 {

@@ -3,7 +3,7 @@
 --     row_again, walker_row_again    and a row of 511 numbers from its sketch, a row of eight from its walker: so a refused row is unchanged
 --     zero_row, zero-walker_row    the rows of all zeros
 --     head_stored, cells-stored, cells_lent    a row, as the code stores it in two parts
---     settings-of_row, parts_in, row-kept_in    a sketch's parts, as the code lends them
+--     settings-of_row, behind_seven, parts_in, row-kept_in    a sketch's parts, as the code lends them
 -- Assumes nothing.
 use mathlib.Core.Path.{◌≡◌, refl, sym, ap, ◌∙◌, subst}
 use mathlib.Core.Bool.{true}
@@ -95,24 +95,30 @@ pub cells-stored : {next : ℕ} {after : List ℕ} (row cells : List ℕ) → le
 cells-stored row cells e f s =
     ap (drop 7) s.contents ∙ behind row cells (drop (7 + length cells) row) e (drop_of_length-le row {i = 7 + length cells} (omega arith))
 
-pub cells_lent : (row cells : List ℕ) → length row ≡ 511 → drop 7 (take 7 row ++ (cells ++ drop (length row - 7) (drop 7 row))) ≡ cells
-cells_lent row cells e =
-    behind row cells (drop (length row - 7) (drop 7 row)) e (drop_of_length-le (drop 7 row) {i = length row - 7} (omega (arith, length-drop 7 row)))
+pub cells_lent : (row cells : List ℕ) → length row ≡ 511 → drop 7 (take 7 row ++ (cells ++ drop 504 (drop 7 row))) ≡ cells
+cells_lent row cells e = behind row cells (drop 504 (drop 7 row)) e (drop_of_length-le (drop 7 row) {i = 504} (omega (arith, length-drop 7 row)))
 
 -- a row's settings are those of what stands in it
 pub settings-of_row : (row : List ℕ) → (sketch_in row).settings ≡ settings_from row
 unfolding sketch_in
 settings-of_row row = refl
 
--- a sketch's parts, as the code lends them: the whole row behind the seven numbers
-pub parts_in : (row : List ℕ) (s : Settings) → s ≡ settings_from row → held s (get_or row 5 0) (get_or row 6 0) (take (length row - 7) (drop 7 row)) ≡ sketch_in row
+-- the whole row behind the seven numbers
+pub behind_seven : (row : List ℕ) → length row ≡ 511 → take 504 (drop 7 row) ≡ drop 7 row
+behind_seven row e =
+    let left : 504 ≡ length row - 7 = omega arith in
+    ap (λ (n : ℕ). take n (drop 7 row)) left ∙ part_rest row 7
+
+-- a sketch's parts, as the code lends them
+pub parts_in : (row : List ℕ) (s : Settings) → length row ≡ 511 → s ≡ settings_from row
+    → held s (get_or row 5 0) (get_or row 6 0) (take 504 (drop 7 row)) ≡ sketch_in row
 unfolding sketch_in
-parts_in row s e = rw (e, part_rest row 7)
+parts_in row s e q = rw (q, behind_seven row e)
 
 -- and where they are a sketch's: cells kept at its level, and zeros after them
 pub row-kept_in : (row : List ℕ) (s : Settings) → length row ≡ 511 → s ≡ settings_from row → is_sketch (sketch_in row) ≡ true
-    → KeptRow s (kept_of (sketch_in row)) (take (length row - 7) (drop 7 row))
+    → KeptRow s (kept_of (sketch_in row)) (take 504 (drop 7 row))
 unfolding sketch_in
 row-kept_in row s e q k =
     let sized : length (drop 7 row) ≡ 504 = length-drop 7 row ∙ omega arith in
-    rw (q, part_rest row 7) (row_kept (sketch_in row) sized (sketch_facts (sketch_in row) k))
+    rw (q, behind_seven row e) (row_kept (sketch_in row) sized (sketch_facts (sketch_in row) k))

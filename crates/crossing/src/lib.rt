@@ -33,16 +33,14 @@ pub fn settings_in(row: &[u32]) -> Settings
 }
 
 // Is the row a sketch's? It is looked at where it stands.
-pub fn is_sketch(row: &[u32]) -> bool
-    requires { length row.now ≡ 511 }
+pub fn is_sketch(row: &[u32; SKETCH]) -> bool
     ensures { result ≡ is_sketch (sketch_in row.now) }
 {
     sketch::is_sketch(settings_in(row), row[5], row[6], &row[7..])
 }
 
 // The level, and how many cells are kept.
-pub fn kept_in(row: &[u32]) -> Kept
-    requires { length row.now ≡ 511 }
+pub fn kept_in(row: &[u32; SKETCH]) -> Kept
     ensures { result ≡ kept_of (sketch_in row.now) }
 {
     Kept {
@@ -52,8 +50,7 @@ pub fn kept_in(row: &[u32]) -> Kept
 }
 
 // Stores the seven numbers before the cells.
-pub fn put_head(row: &mut [u32], s: Settings, level: u32, count: u32)
-    requires { length row.old ≡ 511 }
+pub fn put_head(row: &mut [u32; SKETCH], s: Settings, level: u32, count: u32)
     ensures { row.new ≡ sketch_row (held s level count (drop 7 row.old)) }
 {
     row[0] = s.n;
@@ -66,16 +63,15 @@ pub fn put_head(row: &mut [u32], s: Settings, level: u32, count: u32)
 }
 
 // Stores a whole sketch.
-pub fn put_sketch(row: &mut [u32], s: Settings, level: u32, count: u32, cells: &[u32])
-    requires { (length row.old ≡ 511) × (length cells.now ≡ 504) }
+pub fn put_sketch(row: &mut [u32; SKETCH], s: Settings, level: u32, count: u32, cells: &[u32])
+    requires { length cells.now ≡ 504 }
     ensures { row.new ≡ sketch_row (held s level count cells.now) }
 {
     stores::store(row, 7, cells);
     put_head(row, s, level, count);
 }
 
-pub fn walker_in(row: &[u32]) -> Walker
-    requires { length row.now ≡ 8 }
+pub fn walker_in(row: &[u32; WALKER]) -> Walker
     ensures { result ≡ walker_in row.now }
 {
     Walker {

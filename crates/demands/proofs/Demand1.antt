@@ -20,9 +20,12 @@ use lib.ListN.{length, get_or, replicate}
 use borrow.Author.Tests.{leb-false, not-false, not-true}
 use Rattle.lists.proofs.Tests.{tested}
 use Rattle.lists.proofs.Searches.{least-least, least-found}
+use Rattle.rule.specs.declared.refusals.Refusal.{Refusal as Reason}
+use Rattle.rule.specs.declared.refusals.RowError.{RowError}
+use Rattle.rule.specs.declared.refusals.ReadError.{ReadError}
+use Rattle.std.specs.Prelude.{Result}
 use Rattle.rule.specs.declared.Settings.{Settings}
-use Rattle.rule.specs.declared.answers.Written.{Written}
-use Rattle.rule.specs.Refusals.{Outcome, Paper, answered, refused, unless_at, bad_settings, bad_range, bad_level, not_one, unequal, no_room, bad_check, bad_image}
+use Rattle.rule.specs.Refusals.{Outcome, Paper, answered, refused, unless_at, bad_settings, bad_range, bad_level, not_one, unequal, no_room, bad_check, bad_image, hits}
 use Rattle.rule.specs.Refusals.{bad_line, of_row}
 use Rattle.rule.specs.Rule.{no_settings}
 use Rattle.rule.specs.Samples.{range_count, next_hit}
@@ -30,7 +33,7 @@ use Rattle.block.specs.Sums.{block_good}
 use Rattle.find.specs.declared.Walker.{Walker}
 use Rattle.find.specs.declared.Started.{Started}
 use Rattle.find.specs.declared.Stepped.{Stepped}
-use Rattle.find.specs.Finding.{count_on, next_on, hits}
+use Rattle.find.specs.Finding.{count_on, next_on}
 use Rattle.find.specs.Walking.{start_on, step_on, after_step, moved, no_walker, Starts, Steps}
 use Rattle.sketch.specs.declared.Sketch.{Sketch}
 use Rattle.sketch.specs.declared.Changed.{Changed}
@@ -38,11 +41,9 @@ use Rattle.sketch.specs.Sketches.{sketch_at}
 use Rattle.sketch.specs.Calls.{open_on, add_on, merge_on, no_sketch, Hands}
 use Rattle.sketch.specs.Estimates.{weight_of, estimate_on}
 use Rattle.row.specs.declared.Stretch.{Stretch}
-use Rattle.row.specs.declared.RowChanged.{RowChanged}
 use Rattle.row.specs.Stretches.{within, first_bad, add_all, row_on, HandsRow}
 use Rattle.row.proofs.Places.{none, all_by_place, bad_there, good-before}
 use Rattle.plain.specs.Plain.{limit, plain_count_on, plain_next_on, plain_add_on}
-use Rattle.image.specs.declared.Loaded.{Loaded}
 use Rattle.layout.specs.Images.{image_of}
 use Rattle.layout.specs.Shapes.{block_at, blocks_in, first_wrong}
 use Rattle.image.specs.Calls.{write_on, read_on, read_marked, Writes, Reads}
@@ -184,10 +185,10 @@ unfolding read_on read_marked judged
 read_lawful s = by_rules (read_on s) (read_rules s) [] (simp (unless_cond, not_cond (ltb (first_wrong s) (blocks_in s))))
 
 -- what comes back with a refusal
-pub hands_back : (paper : Paper) (next old : Sketch) (r : Changed) (number place : ℕ) → Hands paper next old r → paper ≡ refused number place → r.sketch ≡ old
+pub hands_back : (paper : Paper) (next old : Sketch) (r : Changed Reason) (number place : ℕ) → Hands paper next old r → paper ≡ refused number place → r.sketch ≡ old
 hands_back paper next old r number place h e = let p = h.sketch in cc
 
-pub hands_row_back : (paper : Paper) (next old : Sketch) (r : RowChanged) (number place : ℕ) → HandsRow paper next old r → paper ≡ refused number place
+pub hands_row_back : (paper : Paper) (next old : Sketch) (r : Changed RowError) (number place : ℕ) → HandsRow paper next old r → paper ≡ refused number place
     → r.sketch ≡ old
 hands_row_back paper next old r number place h e = let p = h.sketch in cc
 
@@ -199,10 +200,10 @@ pub step_back : (w : Walker) (r : Stepped) (number place : ℕ) → Steps w r �
 unfolding after_step
 step_back w r number place h e = h.walker ∙ ap (λ (q : Paper). moved q w) e
 
-pub read_zeros : (s : List ℕ) (r : Loaded) (number place : ℕ) → Reads s r → read_on s ≡ refused number place → r.sketch ≡ no_sketch
+pub read_zeros : (s : List ℕ) (r : Changed ReadError) (number place : ℕ) → Reads s r → read_on s ≡ refused number place → r.sketch ≡ no_sketch
 read_zeros s r number place h e = let p = h.sketch in cc
 
-pub room_back : (k : Sketch) (room after : List ℕ) (r : Written) (number place : ℕ) → Writes k room r after → write_on k (length room) ≡ refused number place
+pub room_back : (k : Sketch) (room after : List ℕ) (r : Result ℕ Reason) (number place : ℕ) → Writes k room r after → write_on k (length room) ≡ refused number place
     → after ≡ room
 room_back k room after r number place h e = let p = h.contents in cc
 
@@ -231,7 +232,7 @@ first_is_wrong s h =
     not-true (block_good (block_at (first_wrong s) s)) (least-found q (blocks_in s) 0 (omega arith))
 
 -- a row's 2 names the first bad stretch
-module _ (k : Sketch) (ts : List Stretch) (r : RowChanged) (place : ℕ) (h : HandsRow (row_on k ts) (add_all k ts) k r)
+module _ (k : Sketch) (ts : List Stretch) (r : Changed RowError) (place : ℕ) (h : HandsRow (row_on k ts) (add_all k ts) k r)
     (e : of_row r.answer ≡ refused bad_range place) where
   named : (place ≡ first_bad k.settings ts) × (first_bad k.settings ts < length ts)
   named =

@@ -19,6 +19,7 @@ use lib.ListN.{length}
 use borrow.Author.Tests.{leb-true}
 use Rattle.lists.specs.Lists.{listed, range}
 use Rattle.lists.proofs.Tests.{tested}
+use Rattle.rule.specs.declared.refusals.Refusal.{Refusal}
 use Rattle.rule.specs.declared.Settings.{Settings}
 use Rattle.rule.specs.Cells.{Cells, no_cells, ◌∪◌, interval}
 use Rattle.rule.specs.Rule.{Good, is_good, passes}
@@ -68,7 +69,7 @@ module _ (s : Settings) (good : Good s) where
   settings_of X = refl
 
   -- opening
-  opens : (r : Changed) → Hands (open_on s) (opened s) no_sketch r → of_answer r.answer ≡ answered [] → r.sketch ≡ sketch_of s no_cells
+  opens : (r : Changed Refusal) → Hands (open_on s) (opened s) no_sketch r → of_answer r.answer ≡ answered [] → r.sketch ≡ sketch_of s no_cells
   opens r h e = handed_next (open_on s) (opened s) no_sketch r.sketch [] (sym h.answer ∙ e) h.sketch ∙ open_law s
 
   -- a call to the sketch of a set, whose next sketch is that of this set with more cells
@@ -231,7 +232,7 @@ more_cells s X Y j k a b h =
     rw (the_sketch s g X j a, the_sketch s g Y k b) (sketch_more s g X Y h)
 
 -- 4: a merge of two histories is never refused, and is a history of the cells of both
-pub merge-made : (s : Settings) {X Y : Cells} {j k : Sketch} → Made s X j → Made s Y k → (r : Changed) → Hands (merge_on j k) (merge j k) j r
+pub merge-made : (s : Settings) {X Y : Cells} {j k : Sketch} → Made s X j → Made s Y k → (r : Changed Refusal) → Hands (merge_on j k) (merge j k) j r
     → Made s (X ∪ Y) r.sketch
 merge-made s {X} {Y} {j} {k} a b r h =
     let g = made-good s X j a in
@@ -242,12 +243,12 @@ merge-made s {X} {Y} {j} {k} a b r h =
     subst (λ (q : Paper). Made s (X ∪ brings q Y) r.sketch) p (merging a b r h)
 
 pub merge_order : (s : Settings) {X Y : Cells} {j k : Sketch} → Made s X j → Made s Y k
-    → (q r : Changed) → Hands (merge_on j k) (merge j k) j q → Hands (merge_on k j) (merge k j) k r → q.sketch ≡ r.sketch
+    → (q r : Changed Refusal) → Hands (merge_on j k) (merge j k) j q → Hands (merge_on k j) (merge k j) k r → q.sketch ≡ r.sketch
 merge_order s {X} {Y} a b q r h i =
     same-cells s (X ∪ Y) (Y ∪ X) q.sketch r.sketch (merge-made s a b q h) (merge-made s b a r i) (λ x. or_comm (X x) (Y x))
 
 pub merge_grouping : (s : Settings) {X Y Z : Cells} {i j k : Sketch} → Made s X i → Made s Y j → Made s Z k
-    → (p q r t : Changed)
+    → (p q r t : Changed Refusal)
     → Hands (merge_on i j) (merge i j) i p → Hands (merge_on p.sketch k) (merge p.sketch k) p.sketch q
     → Hands (merge_on j k) (merge j k) j r → Hands (merge_on i r.sketch) (merge i r.sketch) i t
     → q.sketch ≡ t.sketch
@@ -255,5 +256,5 @@ merge_grouping s {X} {Y} {Z} a b c p q r t hp hq hr ht =
     same-cells s ((X ∪ Y) ∪ Z) (X ∪ (Y ∪ Z)) q.sketch t.sketch (merge-made s (merge-made s a b p hp) c q hq) (merge-made s a (merge-made s b c r hr) t ht)
     (λ x. or_assoc (X x) (Y x) (Z x))
 
-pub merge_repeat : (s : Settings) {X : Cells} {k : Sketch} → Made s X k → (r : Changed) → Hands (merge_on k k) (merge k k) k r → r.sketch ≡ k
+pub merge_repeat : (s : Settings) {X : Cells} {k : Sketch} → Made s X k → (r : Changed Refusal) → Hands (merge_on k k) (merge k k) k r → r.sketch ≡ k
 merge_repeat s {X} {k} a r h = same-cells s (X ∪ X) X r.sketch k (merge-made s a a r h) a (λ x. or_self (X x))

@@ -11,6 +11,8 @@ use mathlib.Core.Path.{◌≡◌, refl, sym, ap, ◌∙◌, subst, fun_ext}
 use mathlib.Core.Bool.{Bool, true, false, ◌&&◌, ◌||◌, and_assoc, and_comm, or_assoc, or_comm, or_self, or-false}
 use mathlib.Core.List.{List, [], ◌∷◌, ◌++◌, flatten}
 use Prim.Native.Nat.{ℕ}
+use Rattle.rule.specs.declared.refusals.RowError.{RowError}
+use Rattle.sketch.specs.declared.Changed.{Changed}
 use Rattle.rule.specs.declared.Settings.{Settings}
 use Rattle.rule.specs.Cells.{Cells, ◌∪◌, interval}
 use Rattle.rule.specs.Refusals.{Paper, answered, refused, unless_at, bad_range, of_row}
@@ -21,7 +23,6 @@ use Rattle.sketch.specs.Calls.{add_on, handed}
 use Rattle.sketch.proofs.Handing.{add_granted}
 use Rattle.sketch.proofs.Results.{add_again}
 use Rattle.row.specs.declared.Stretch.{Stretch}
-use Rattle.row.specs.declared.RowChanged.{RowChanged}
 use Rattle.row.specs.Stretches.{within, all_in, first_bad, add_all, row_cells, row_when, row_on, HandsRow}
 use Rattle.row.proofs.Runs.{add-settings, add_all-append, add_all-settings, add_all_again}
 use Rattle.row.proofs.Rows.{row_in, row_told, row_first}
@@ -32,7 +33,7 @@ use Rattle.demands.proofs.Demand2.{handed_next}
 use Rattle.demands.proofs.Demand3.{made-sketch, exact, same-cells}
 
 -- whatever was given as one; and where it is one, with an answer
-pub row_empty : (k : Sketch) (r : RowChanged) → HandsRow (row_on k []) (add_all k []) k r
+pub row_empty : (k : Sketch) (r : Changed RowError) → HandsRow (row_on k []) (add_all k []) k r
     → (r.sketch ≡ k) × (is_sketch k ≡ true → of_row r.answer ≡ answered [])
 row_empty k r h = (h.sketch ∙ same (row_on k []), λ g. h.answer ∙ row_in k [] g refl)
   where
@@ -64,7 +65,7 @@ all-adds (one_stretch {k = i} {t = t} {ts = us} r h rest) g a =
     row_in i (t ∷ us) g (rw (w, v))
 
 -- what is handed back with an answer
-module _ (k : Sketch) (ts : List Stretch) (r : RowChanged) (h : HandsRow (row_on k ts) (add_all k ts) k r) (e : of_row r.answer ≡ answered []) where
+module _ (k : Sketch) (ts : List Stretch) (r : Changed RowError) (h : HandsRow (row_on k ts) (add_all k ts) k r) (e : of_row r.answer ≡ answered []) where
   is_answered_lem : row_on k ts ≡ answered []
   is_answered_lem = sym h.answer ∙ e
 
@@ -75,7 +76,7 @@ module _ (k : Sketch) (ts : List Stretch) (r : RowChanged) (h : HandsRow (row_on
   row-each papers j c = let w = each-add c is_answered_lem in (w.0, w.1 ∙ sym is_next)
 
 -- on a sketch: on anything else the empty row is refused, and there is no call that could be
-pub each_row : (k : Sketch) (ts : List Stretch) (r : RowChanged) → HandsRow (row_on k ts) (add_all k ts) k r → is_sketch k ≡ true
+pub each_row : (k : Sketch) (ts : List Stretch) (r : Changed RowError) → HandsRow (row_on k ts) (add_all k ts) k r → is_sketch k ≡ true
     → (papers : List Paper) (j : Sketch) → OneByOne k ts papers j → Answered papers → (of_row r.answer ≡ answered []) × (j ≡ r.sketch)
 each_row k ts r h g papers j c a = let e = h.answer ∙ all-adds c g a in (e, (row-each k ts r h e papers j c).1)
 
@@ -88,7 +89,7 @@ adds-made s X {j = j} m (one_stretch {k = i} {t = t} {ts = us} r h rest) a =
     subst (λ (Y : Cells). Made s Y j) (fun_ext (λ x. or_assoc (X x) (C x) (row_cells us x))) (adds-made s (X ∪ C) n rest a.1)
 
 pub row_counts : (s : Settings) (X : Cells) (k : Sketch) (ts : List Stretch) → Made s X k
-    → (r : RowChanged) → HandsRow (row_on k ts) (add_all k ts) k r → of_row r.answer ≡ answered []
+    → (r : Changed RowError) → HandsRow (row_on k ts) (add_all k ts) k r → of_row r.answer ≡ answered []
     → (papers : List Paper) (j : Sketch) → OneByOne k ts papers j → Made s (X ∪ row_cells ts) r.sketch × Made s (X ∪ row_cells ts) j
 row_counts s X k ts m r h e papers j c = (
   subst (λ (p : Paper). Made s (X ∪ brings p (row_cells ts)) r.sketch) (is_answered_lem k ts r h e) (rowing m ts r h),
@@ -135,7 +136,7 @@ all-parts (one_row {k = i} {ts = us} {tss = uss} r h rest) g a =
     let ih = all-parts rest (ap is_sketch q ∙ add_all_again i us g) a.1 in
     whole-answered i us (flatten uss) (is_answered_lem i us r h a.0) (ap (λ (v : Sketch). row_on v (flatten uss)) (sym q) ∙ ih)
 
-module _ (k : Sketch) (tss : List (List Stretch)) (r : RowChanged) (h : HandsRow (row_on k (flatten tss)) (add_all k (flatten tss)) k r)
+module _ (k : Sketch) (tss : List (List Stretch)) (r : Changed RowError) (h : HandsRow (row_on k (flatten tss)) (add_all k (flatten tss)) k r)
     (papers : List Paper) (j : Sketch) (c : RowByRow k tss papers j) where
   pub row_cut : of_row r.answer ≡ answered [] → Answered papers × (j ≡ r.sketch)
   row_cut e = let w = each_part c (is_answered_lem k (flatten tss) r h e) in (w.0, w.1 ∙ sym (is_next k (flatten tss) r h e))
@@ -182,13 +183,13 @@ module _ (s : Settings) {X : Cells} {k : Sketch} (m : Made s X k) where
       ∙ ap (λ (q : Paper). brings q (row_cells us) x) (sym (on_made us))
 
   pub row_order : {ts us : List Stretch} → Reordered ts us
-      → (q r : RowChanged) → HandsRow (row_on k ts) (add_all k ts) k q → HandsRow (row_on k us) (add_all k us) k r → q.sketch ≡ r.sketch
+      → (q r : Changed RowError) → HandsRow (row_on k ts) (add_all k ts) k q → HandsRow (row_on k us) (add_all k us) k r → q.sketch ≡ r.sketch
   row_order {ts} {us} p q r h i =
       same-cells s (X ∪ brings (row_on k ts) (row_cells ts)) (X ∪ brings (row_on k us) (row_cells us)) q.sketch r.sketch (rowing m ts q h) (rowing m us r i)
       (λ x. ap (λ (b : Bool). X x || b) (brings_reordered p x))
 
 pub row_repeat : (s : Settings) {X : Cells} {k : Sketch} → Made s X k → (ts : List Stretch)
-    → (q r : RowChanged) → HandsRow (row_on k ts) (add_all k ts) k q → HandsRow (row_on q.sketch ts) (add_all q.sketch ts) q.sketch r
+    → (q r : Changed RowError) → HandsRow (row_on k ts) (add_all k ts) k q → HandsRow (row_on q.sketch ts) (add_all q.sketch ts) q.sketch r
     → r.sketch ≡ q.sketch
 row_repeat s {X} {k} m ts q r h i =
     let once = rowing m ts q h in

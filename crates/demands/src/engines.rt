@@ -8,52 +8,41 @@ ghost use Rattle.sketch.specs.Calls.{add_on, Hands};
 ghost use Rattle.plain.specs.Plain.{limit, plain_count_on, plain_next_on, plain_add_on};
 
 use rule::Settings;
-use rule::answers::{Counted, Found};
+use rule::refusals::Refusal;
 use sketch::{Changed, Sketch};
 
+// What the two engines answer to one call.
 #[derive(Clone, Copy)]
-pub struct TwoCounts {
-    pub first: Counted,
-    pub plain: Counted,
+pub struct Two<T> {
+    pub first: T,
+    pub plain: T,
 }
 
-#[derive(Clone, Copy)]
-pub struct TwoHits {
-    pub first: Found,
-    pub plain: Found,
-}
-
-#[derive(Clone, Copy)]
-pub struct TwoSketches {
-    pub first: Changed,
-    pub plain: Changed,
-}
-
-pub fn counts(s: Settings, level: u32, lo: u32, hi: u32) -> TwoCounts
+pub fn counts(s: Settings, level: u32, lo: u32, hi: u32) -> Two<Result<u32, Refusal>>
     ensures { (of_counted result.first ≡ count_on s level lo hi) × (of_counted result.plain ≡ plain_count_on s level lo hi)
         × (s.n ≤ limit → result.plain ≡ result.first) }
 {
-    TwoCounts {
+    Two {
         first: find::count(s, level, lo, hi),
         plain: plain::count(s, level, lo, hi),
     }
 }
 
-pub fn finds(s: Settings, level: u32, from: u32) -> TwoHits
+pub fn finds(s: Settings, level: u32, from: u32) -> Two<Result<Option<u32>, Refusal>>
     ensures { (of_found result.first ≡ next_on s level from) × (of_found result.plain ≡ plain_next_on s level from)
         × (s.n ≤ limit → result.plain ≡ result.first) }
 {
-    TwoHits {
+    Two {
         first: find::next_hit(s, level, from),
         plain: plain::next_hit(s, level, from),
     }
 }
 
-pub fn adds(k: Sketch, lo: u32, hi: u32) -> TwoSketches
+pub fn adds(k: Sketch, lo: u32, hi: u32) -> Two<Changed<Refusal>>
     ensures { Hands (add_on k lo hi) (add k lo hi) k result.first × Hands (plain_add_on k lo hi) (add k lo hi) k result.plain
         × (k.settings.n ≤ limit → result.plain ≡ result.first) }
 {
-    TwoSketches {
+    Two {
         first: k.add(lo, hi),
         plain: plain::add(k, lo, hi),
     }

@@ -3,7 +3,7 @@
 #![tactic(auto)]
 
 ghost use Rattle.std.specs.Prelude.{◌≡◌, [], ◌∷◌};
-ghost use Rattle.rule.specs.Refusals.{is_answered, of_counted, of_found, of_row};
+ghost use Rattle.rule.specs.Refusals.{of_counted, of_found, of_row};
 ghost use Rattle.find.specs.Finding.{count_on, next_on};
 ghost use Rattle.find.specs.Walking.{Starts, Steps};
 ghost use Rattle.sketch.specs.Sketches.{is_sketch, opened, add, merge};
@@ -18,20 +18,19 @@ pub mod rules;
 pub mod walkers;
 
 use find::{Started, Stepped, Walker};
-use image::Loaded;
-use row::{RowChanged, Stretch};
+use row::Stretch;
 use rule::Settings;
-use rule::answers::{Counted, Found, RowAnswer, Written};
+use rule::refusals::{ReadError, Refusal, RowError};
 use sketch::estimates::Estimate;
 use sketch::{Changed, Sketch};
 
-pub fn counts(s: Settings, level: u32, lo: u32, hi: u32) -> Counted
+pub fn counts(s: Settings, level: u32, lo: u32, hi: u32) -> Result<u32, Refusal>
     ensures { of_counted result ≡ count_on s level lo hi }
 {
     find::count(s, level, lo, hi)
 }
 
-pub fn finds(s: Settings, level: u32, from: u32) -> Found
+pub fn finds(s: Settings, level: u32, from: u32) -> Result<Option<u32>, Refusal>
     ensures { of_found result ≡ next_on s level from }
 {
     find::next_hit(s, level, from)
@@ -55,43 +54,37 @@ pub fn is_one(k: Sketch) -> bool
     k.good()
 }
 
-pub fn opens(s: Settings) -> Changed
+pub fn opens(s: Settings) -> Changed<Refusal>
     ensures { Hands (open_on s) (opened s) no_sketch result }
 {
     Sketch::open(s)
 }
 
-pub fn adds(k: Sketch, lo: u32, hi: u32) -> Changed
+pub fn adds(k: Sketch, lo: u32, hi: u32) -> Changed<Refusal>
     ensures { Hands (add_on k lo hi) (add k lo hi) k result }
 {
     k.add(lo, hi)
 }
 
-pub fn adds_row(k: Sketch, row: &[Stretch]) -> RowChanged
+pub fn adds_row(k: Sketch, row: &[Stretch]) -> Changed<RowError>
     ensures { HandsRow (row_on k row.now) (add_all k row.now) k result }
 {
     row::add_row(k, row)
 }
 
-pub fn adds_two(k: Sketch, first: Stretch, second: Stretch) -> RowChanged
+pub fn adds_two(k: Sketch, first: Stretch, second: Stretch) -> Changed<RowError>
     ensures { HandsRow (row_on k (first ∷ second ∷ [])) (add_all k (first ∷ second ∷ [])) k result }
 {
     row::add_two(k, first, second)
 }
 
-pub fn answers_row(known: bool, s: Settings, row: &[Stretch]) -> RowAnswer
+pub fn answers_row(known: bool, s: Settings, row: &[Stretch]) -> Result<(), RowError>
     ensures { of_row result ≡ row_when known s row.now }
 {
     row::row_answer(known, s, row)
 }
 
-pub fn is_done(answer: RowAnswer) -> bool
-    ensures { result ≡ is_answered (of_row answer) }
-{
-    row::is_done(answer)
-}
-
-pub fn merges(j: Sketch, k: Sketch) -> Changed
+pub fn merges(j: Sketch, k: Sketch) -> Changed<Refusal>
     ensures { Hands (merge_on j k) (merge j k) j result }
 {
     j.merge(k)
@@ -103,13 +96,13 @@ pub fn estimates(k: Sketch) -> Estimate
     k.estimate()
 }
 
-pub fn writes(k: Sketch, room: &mut [u8]) -> Written
+pub fn writes(k: Sketch, room: &mut [u8]) -> Result<usize, Refusal>
     ensures { Writes k room.old result room.new }
 {
     image::write(k, room)
 }
 
-pub fn reads(bytes: &[u8]) -> Loaded
+pub fn reads(bytes: &[u8]) -> Changed<ReadError>
     ensures { Reads bytes.now result }
 {
     image::read(bytes)

@@ -3,10 +3,10 @@
 ghost use Rattle.find.specs.Walking.{Steps};
 
 use find::{Stepped, Walker};
-use rule::answers::Found;
+use rule::refusals::Refusal;
 
 // The answer with the walker as it is left is what a step hands back.
-pub fn lends(walker: &mut Walker) -> Found
+pub fn lends(walker: &mut Walker) -> Result<Option<u32>, Refusal>
     ensures { Steps walker.old (record { found = result; walker = walker.new }) }
 {
     lent::next(walker)

@@ -4,7 +4,6 @@
 --     Feeding         a turn of `feed`: what it was fed is done, and what it has still to take is what it takes
 --     feeding_start, feeding_line, feeding_noted, feeding_long     the turns
 --     feeding_done, feeding_full       the two ends
---     rest-none, rest_line     the answer to a last line without a newline
 -- Assumes nothing.
 use mathlib.Core.Path.{◌≡◌, refl, sym, ap, ◌∙◌, subst}
 use mathlib.Core.List.{List, [], ◌∷◌, ◌++◌, append_assoc, append-nil}
@@ -15,11 +14,9 @@ use borrow.Author.Tests.{le-leb, lt-leb, lt-ltb, le-ltb, eq-eqb, ne_eqb}
 use Rattle.lists.specs.Rows.{Stored}
 use Rattle.lists.proofs.Steps.{next, take_next}
 use Rattle.lists.proofs.Stores.{stored-none, stored_then, stored_as, stored-room}
-use Rattle.evening.specs.declared.Pot.{Pot}
 use Rattle.evening.specs.declared.Evening.{Evening}
-use Rattle.evening.specs.declared.Told.{Told}
-use Rattle.evening.specs.Replies.{Tells, Sits, reply_of}
-use Rattle.evening.specs.Runs.{Run, Sitting, line_of, lengthened, line_ended, step, after, fed, takes, Feeds, rest}
+use Rattle.evening.specs.Replies.{Pot, Tells, Sits, reply_of}
+use Rattle.evening.specs.Runs.{Run, Sitting, line_of, lengthened, line_ended, step, after, fed, takes, Feeds}
 use Rattle.evening.proofs.Staying.{reply_sits, lengthened_sits}
 
 after-after : (a b c : Run) → after a (after b c) ≡ after (after a b) c
@@ -74,15 +71,6 @@ step_long : (s : Evening) (x : ℕ) → (x ≡ 10 → ⊥) → 65 ≤ s.length �
 unfolding step
 step_long s x n l = rw (ne_eqb x 10 n, le-ltb s.length 65 l)
 
--- the rest of an input
-pub rest-none : (s : Evening) (row : List ℕ) → s.length ≡ 0 → Stored row 0 (rest s) 0 row
-unfolding rest
-rest-none s row e = rw (eq-eqb s.length 0 e) (stored-none row 0)
-
-pub rest_line : (s : Evening) → (s.length ≡ 0 → ⊥) → (reply_of s.pot (line_of s)).text ≡ rest s
-unfolding rest
-rest_line s n = rw (ne_eqb s.length 0 n)
-
 pub record Feeding (s₀ : Evening) (input row : List ℕ) (s : Evening) (i : ℕ) (out : List ℕ) (written : ℕ) : Type 0 where
   pub within : i ≤ length input
   pub sits : Sitting s
@@ -135,15 +123,15 @@ module _ {s₀ : Evening} {input row : List ℕ} {s : Evening} {i : ℕ} {out : 
       }
 
   -- a newline: the line is answered
-  pub feeding_line : i < length input → 40 ≤ length row - written → get_or input i 0 ≡ 10 → (r : Told) (out' : List ℕ)
-      → Tells out written (reply_of s.pot (line_of s)) out' r → length out' ≡ length out
-      → Feeding s₀ input row (record { pot = r.pot; length = 0; line = s.line }) (i + 1) out' r.next
-  feeding_line h m x r out' t l =
+  pub feeding_line : i < length input → 40 ≤ length row - written → get_or input i 0 ≡ 10 → (pot : Pot) (written' : ℕ) (out' : List ℕ)
+      → Tells out written (reply_of s.pot (line_of s)) out' pot written' → length out' ≡ length out
+      → Feeding s₀ input row (record { pot = pot; length = 0; line = s.line }) (i + 1) out' written'
+  feeding_line h m x pot written' out' t l =
       let reply = reply_of s.pot (line_of s) in
       let next : Pot → Run = λ p. record { evening = record { pot = p; length = 0; line = s.line }; output = reply.text } in
-      let e : step s (get_or input i 0) ≡ next r.pot = step_newline s (get_or input i 0) x ∙ ap next (sym t.pot) in
-      let w : Sits r.pot = subst Sits (sym t.pot) (reply_sits s.pot (line_of s) f.sits.pot) in
-      feeding_step h m (next r.pot) out' r.next e t.stored l (record { pot = w; short = omega arith })
+      let e : step s (get_or input i 0) ≡ next pot = step_newline s (get_or input i 0) x ∙ ap next (sym t.pot) in
+      let w : Sits pot = subst Sits (sym t.pot) (reply_sits s.pot (line_of s) f.sits.pot) in
+      feeding_step h m (next pot) out' written' e t.stored l (record { pot = w; short = omega arith })
 
   -- a byte of the line
   pub feeding_noted : i < length input → 40 ≤ length row - written → (get_or input i 0 ≡ 10 → ⊥) → s.length < 65

@@ -7,6 +7,7 @@ use mathlib.Core.Path.{◌≡◌, refl, sym, ap, ◌∙◌}
 use mathlib.Core.Bool.{true, false}
 use mathlib.Core.Logic.{⊎_elim}
 use mathlib.Core.List.{List, [], ◌∷◌}
+use Rattle.std.specs.Prelude.{Option, Some, None}
 use Prim.Native.Nat.{ℕ}
 use native.Mathlib.Omega.{arith}
 use lib.Dec.{eqb}
@@ -17,7 +18,7 @@ use Rattle.lists.specs.Rows.{Stored}
 use Rattle.lists.proofs.Tests.{tested}
 use Rattle.lists.proofs.Stores.{stored_same, stored_as}
 use Rattle.rule.specs.declared.Settings.{Settings}
-use Rattle.rule.specs.Refusals.{Outcome, Paper, answered, refused, bad_line}
+use Rattle.rule.specs.Refusals.{Outcome, Paper, answered, refused, not_one, bad_line}
 use Rattle.find.specs.Finding.{count_on, next_on}
 use Rattle.sketch.specs.declared.Sketch.{Sketch}
 use Rattle.sketch.specs.Sketches.{Sound, is_sketch, opened, add}
@@ -31,21 +32,15 @@ use Rattle.line.specs.declared.commands.Command.TheVariants as command
 use Rattle.line.specs.Lines.{command_of}
 use Rattle.line.specs.Texts.{OneLine, text_exact, text_about, text_refusal}
 use Rattle.line.proofs.Answers.{kept_line, exact_line, about_line, count_line, cell_line, none_line, refusal_line}
-use Rattle.evening.specs.declared.Pot.{Pot}
-use Rattle.evening.specs.declared.Told.{Told}
 use Rattle.evening.specs.declared.Evening.{Evening}
 use Rattle.evening.specs.declared.Fed.{Fed}
-use Rattle.evening.specs.Replies.{Reply, Tells, Sits, estimate_text, count_text, cell_text, when_open, paper_text, kept_if, reply_to, reply_of}
+use Rattle.evening.specs.Replies.{Pot, Reply, Tells, Sits, estimate_text, count_text, cell_text, when_open, paper_text, kept_if, reply_to, reply_of}
 use Rattle.evening.specs.Runs.{Run, fed, Feeds, rest}
 use Rattle.evening.proofs.Staying.{opened-sound, added-sound}
 
-pub tells_tight : {row : List ℕ} {at : ℕ} {reply : Reply} {out out' : List ℕ} {r r' : Told} → Tells row at reply out r → Tells row at reply out' r'
-    → (out ≡ out') × (r ≡ r')
-tells_tight {row} {at} {reply} {out} {out'} {r} {r'} a b =
-    let t = stored_same a.stored b.stored in (
-      t.0,
-      ap (λ (p : Pot). record { pot = p; next = r.next }) (a.pot ∙ sym b.pot) ∙ ap (λ (n : ℕ). record { pot = r'.pot; next = n }) t.1,
-    )
+pub tells_tight : {row : List ℕ} {at : ℕ} {reply : Reply} {out out' : List ℕ} {pot pot' : Pot} {next next' : ℕ} → Tells row at reply out pot next
+    → Tells row at reply out' pot' next' → (out ≡ out') × (pot ≡ pot') × (next ≡ next')
+tells_tight a b = let t = stored_same a.stored b.stored in (t.0, a.pot ∙ sym b.pot, t.1)
 
 pub feeds_tight : {s : Evening} {input row out out' : List ℕ} {r r' : Fed} → Feeds s input row out r → Feeds s input row out' r' → (out ≡ out') × (r ≡ r')
 feeds_tight {s} {input} {row} {out} {out'} {r} {r'} a b =
@@ -81,22 +76,21 @@ cell_text_line : (values : List ℕ) → OneLine (cell_text values)
 cell_text_line [] = none_line
 cell_text_line (x ∷ xs) = cell_line x
 
-command_line : (pot : Pot) (c : Command) → Sits pot → OneLine (reply_to pot c).text
+open_line : (pot : Pot) (text : Sketch → List ℕ) → ((k : Sketch) → OneLine (text k)) → OneLine (when_open pot text)
+open_line None text f = refusal_line not_one
+open_line (Some k) text f = f k
+
+command_line : (pot : Pot) (c : Option Command) → Sits pot → OneLine (reply_to pot c).text
 unfolding reply_to
-command_line pot (command.Settings n p a b capacity) w =
-    let s : Settings = record { n = n; p = p; a = a; b = b; capacity = capacity } in
+command_line pot (Some (command.Settings s)) w =
     kept-one pot (open_on s) (opened s) (opened-sound s)
-command_line pot (command.Add lo hi) w =
-    kept-one pot (when_open pot.opened (add_on pot.sketch lo hi)) (add pot.sketch lo hi) (added-sound pot lo hi w)
-command_line pot command.Estimate w =
-    let k = pot.sketch in
-    told_line (when_open pot.opened (answered [])) (λ values. estimate_text k.settings k.level k.count)
-    (λ values. estimate_line k.settings k.level k.count)
-command_line pot (command.Count level lo hi) w =
-    told_line (when_open pot.opened (count_on pot.sketch.settings level lo hi)) count_text (λ values. count_line (get_or values 0 0))
-command_line pot (command.Next level from) w =
-    told_line (when_open pot.opened (next_on pot.sketch.settings level from)) cell_text cell_text_line
-command_line pot command.Unknown w = refusal_line bad_line
+command_line None (Some (command.Add lo hi)) w = refusal_line not_one
+command_line (Some k) (Some (command.Add lo hi)) w = kept-one (Some k) (add_on k lo hi) (add k lo hi) (λ values e. added-sound k lo hi w)
+command_line pot (Some command.Estimate) w = open_line pot _ (λ k. estimate_line k.settings k.level k.count)
+command_line pot (Some (command.Count level lo hi)) w =
+    open_line pot _ (λ k. told_line (count_on k.settings level lo hi) count_text (λ values. count_line (get_or values 0 0)))
+command_line pot (Some (command.Next level from)) w = open_line pot _ (λ k. told_line (next_on k.settings level from) cell_text cell_text_line)
+command_line pot None w = refusal_line bad_line
 
 pub reply_line : (pot : Pot) (line : List ℕ) → Sits pot → OneLine (reply_of pot line).text
 unfolding reply_of

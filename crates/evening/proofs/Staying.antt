@@ -4,9 +4,10 @@
 --     beginning_sits  at the beginning
 -- Assumes nothing.
 use mathlib.Core.Path.{◌≡◌, refl}
-use mathlib.Core.Bool.{true, false, false≢true}
+use mathlib.Core.Bool.{true, false}
 use mathlib.Core.Logic.{⊎_elim}
 use mathlib.Core.List.{List, [], ◌∷◌}
+use Rattle.std.specs.Prelude.{Option, Some, None}
 use Prim.Native.Nat.{ℕ}
 use native.Mathlib.Omega.{arith}
 use lib.Dec.{eqb, ltb}
@@ -14,7 +15,7 @@ use borrow.Author.Tests.{ltb-true}
 use Rattle.lists.proofs.Tests.{tested}
 use Rattle.rule.specs.declared.Settings.{Settings}
 use Rattle.rule.specs.Rule.{is_good}
-use Rattle.rule.specs.Refusals.{Paper, answered, refused, bad_settings, not_one}
+use Rattle.rule.specs.Refusals.{Paper, answered, refused, bad_settings}
 use Rattle.find.proofs.Checks.{unless-told}
 use Rattle.sketch.specs.declared.Sketch.{Sketch}
 use Rattle.sketch.specs.Sketches.{Sound, opened, add}
@@ -24,13 +25,12 @@ use Rattle.sketch.proofs.Results.{open_again, add_again}
 use Rattle.line.specs.declared.commands.Command.{Command}
 use Rattle.line.specs.declared.commands.Command.TheVariants as command
 use Rattle.line.specs.Lines.{command_of}
-use Rattle.evening.specs.declared.Pot.{Pot}
 use Rattle.evening.specs.declared.Evening.{Evening}
-use Rattle.evening.specs.Replies.{Sits, when_open, kept_if, reply_to, reply_of}
+use Rattle.evening.specs.Replies.{Pot, Sits, kept_if, reply_to, reply_of}
 use Rattle.evening.specs.Runs.{beginning, Sitting, lengthened, noted, step, fed}
 
 kept_sits : (pot : Pot) (paper : Paper) (k : Sketch) → Sits pot → ((values : List ℕ) → paper ≡ answered values → Sound k) → Sits (kept_if pot paper k).pot
-kept_sits pot (answered values) k w f = record { sound = λ o. f values refl }
+kept_sits pot (answered values) k w f = f values refl
 kept_sits pot (refused number place) k w f = w
 
 -- what S opens and what A hands on is a sketch
@@ -38,23 +38,19 @@ pub opened-sound : (s : Settings) (values : List ℕ) → open_on s ≡ answered
 unfolding open_on
 opened-sound s values e = sketch_facts (opened s) (open_again s (unless-told (is_good s) bad_settings (answered []) values e).0)
 
-pub added-sound : (pot : Pot) (lo hi : ℕ) → Sits pot → (values : List ℕ) → when_open pot.opened (add_on pot.sketch lo hi) ≡ answered values
-    → Sound (add pot.sketch lo hi)
-added-sound pot lo hi w values e =
-    let o : pot.opened ≡ true = (unless-told pot.opened not_one (add_on pot.sketch lo hi) values e).0 in
-    sketch_facts (add pot.sketch lo hi) (add_again pot.sketch lo hi (facts_sketch pot.sketch (w.sound o)))
+pub added-sound : (k : Sketch) (lo hi : ℕ) → Sound k → Sound (add k lo hi)
+added-sound k lo hi w = sketch_facts (add k lo hi) (add_again k lo hi (facts_sketch k w))
 
-command_sits : (pot : Pot) (c : Command) → Sits pot → Sits (reply_to pot c).pot
+command_sits : (pot : Pot) (c : Option Command) → Sits pot → Sits (reply_to pot c).pot
 unfolding reply_to
-command_sits pot (command.Settings n p a b capacity) w =
-    let s : Settings = record { n = n; p = p; a = a; b = b; capacity = capacity } in
+command_sits pot (Some (command.Settings s)) w =
     kept_sits pot (open_on s) (opened s) w (opened-sound s)
-command_sits pot (command.Add lo hi) w =
-    kept_sits pot (when_open pot.opened (add_on pot.sketch lo hi)) (add pot.sketch lo hi) w (added-sound pot lo hi w)
-command_sits pot command.Estimate w = w
-command_sits pot (command.Count level lo hi) w = w
-command_sits pot (command.Next level from) w = w
-command_sits pot command.Unknown w = w
+command_sits None (Some (command.Add lo hi)) w = w
+command_sits (Some k) (Some (command.Add lo hi)) w = kept_sits (Some k) (add_on k lo hi) (add k lo hi) w (λ values e. added-sound k lo hi w)
+command_sits pot (Some command.Estimate) w = w
+command_sits pot (Some (command.Count level lo hi)) w = w
+command_sits pot (Some (command.Next level from)) w = w
+command_sits pot None w = w
 
 pub reply_sits : (pot : Pot) (line : List ℕ) → Sits pot → Sits (reply_of pot line).pot
 unfolding reply_of
@@ -81,4 +77,4 @@ fed_sits s [] w = w
 fed_sits s (x ∷ xs) w = fed_sits (step s x).evening xs (step_sits s x w)
 
 pub beginning_sits : Sitting beginning
-beginning_sits = record { pot = record { sound = λ e. absurd (false≢true e) }; short = omega arith }
+beginning_sits = record { pot = tt; short = omega arith }

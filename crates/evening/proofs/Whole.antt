@@ -18,9 +18,8 @@ use Rattle.lists.proofs.Tests.{tested}
 use Rattle.lists.proofs.Steps.{length_more}
 use Rattle.line.specs.Lines.{command_of}
 use Rattle.line.proofs.Shapes.{command_long}
-use Rattle.evening.specs.declared.Pot.{Pot}
 use Rattle.evening.specs.declared.Evening.{Evening}
-use Rattle.evening.specs.Replies.{reply_to, reply_of}
+use Rattle.evening.specs.Replies.{Pot, reply_to, reply_of}
 use Rattle.evening.specs.Runs.{beginning, line_of, noted, line_ended, Run, step, fed, rest, lines_from, answers, output_of}
 
 command_cut : (line : List ℕ) → command_of (take 65 line) ≡ command_of line

@@ -2,10 +2,9 @@
 use Rattle.std.specs.Prelude.{ℕ, suc, ◌+◌, ◌-◌, ◌≤◌, ◌≡◌, cond, List, [], ◌∷◌, ◌++◌, eqb, leb, ltb, length, take, set, replicate}
 use Prim.Native.Char.{code}
 use Rattle.lists.specs.Rows.{Stored}
-use Rattle.evening.specs.declared.Pot.{Pot}
 use Rattle.evening.specs.declared.Evening.{Evening}
 use Rattle.evening.specs.declared.Fed.{Fed}
-use Rattle.evening.specs.Replies.{no_pot, Sits, reply_of}
+use Rattle.evening.specs.Replies.{Pot, no_pot, Sits, reply_of}
 
 -- before the first byte
 abbrev pub beginning : Evening

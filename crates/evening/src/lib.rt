@@ -1,18 +1,16 @@
 // An evening of potcount on bytes: each line is answered with a line, and the open sketch is kept from one to the next.
 #![tactic(auto)]
 
-ghost use Rattle.std.specs.Prelude.{◌≡◌};
+ghost use Rattle.std.specs.Prelude.{◌≡◌, Ok};
 ghost use Rattle.lists.specs.Rows.{Stored};
-ghost use Rattle.evening.specs.Replies.{Sits, Room, Tells, refusal, kept, open_reply, add_reply, estimate_reply, count_reply, next_reply};
-ghost use Rattle.evening.specs.Replies.{reply_of};
+ghost use Rattle.evening.specs.Replies.{Sits, Room, Replies, Tells, kept, open_reply, add_reply, reply_to, reply_of};
 ghost use Rattle.evening.specs.Runs.{beginning, Sitting, Feeds, rest};
 
 mod tells;
 
-use line::commands::Command;
+use line::commands::{Answer, Command};
 use rule::Settings;
-use rule::answers::Answer;
-use rule::refusals::BAD_LINE;
+use rule::refusals::Refusal;
 use sketch::Sketch;
 use tells::{tell_count, tell_estimate, tell_next};
 
@@ -22,22 +20,11 @@ const LINE: usize = line::LONGEST + 1;
 // The room that does for any answer.
 const ROOM: usize = 40;
 
-// The open sketch; all zeros where none has been opened yet.
-#[derive(Clone, Copy)]
-pub struct Pot {
-    pub opened: bool,
-    pub sketch: Sketch,
-}
+// The open sketch, once one has been opened.
+pub type Pot = Option<Sketch>;
 
-// The pot after a line, and the place after its answer.
-#[derive(Clone, Copy)]
-pub struct Told {
-    pub pot: Pot,
-    pub next: usize,
-}
-
-// The pot, and the line so far: its first bytes. The places after them hold what is left of earlier
-// lines.
+// The pot, and the line so far: its first bytes, in fixed memory. The places after them hold what is
+// left of earlier lines.
 #[derive(Clone, Copy)]
 pub struct Evening {
     pub pot: Pot,
@@ -58,129 +45,66 @@ pub fn begin() -> Evening
     ensures { result ≡ beginning }
 {
     Evening {
-        pot: Pot {
-            opened: false,
-            sketch: sketch::no_sketch(),
-        },
+        pot: None,
         length: 0,
         line: [0; LINE],
     }
 }
 
-// `R number`
-fn refuse(pot: Pot, number: u32, out: &mut [u8], at: usize) -> Told
-    requires { Room out.old at }
-    ensures { Tells out.old at (refusal pot number) out.new result }
+// `K level cells`, of the sketch that is open from now on.
+fn keep(pot: &mut Pot, sketch: Sketch) -> Answer
+    ensures { Replies (kept sketch) (Ok result) pot.new }
 {
-    let next = line::put_refusal(out, at, number);
-    Told { pot, next }
-}
-
-// `K level cells`
-fn keep(sketch: Sketch, out: &mut [u8], at: usize) -> Told
-    requires { Room out.old at }
-    ensures { Tells out.old at (kept sketch) out.new result }
-{
-    let next = line::put_kept(out, at, sketch.level, sketch.count);
-    Told {
-        pot: Pot {
-            opened: true,
-            sketch,
-        },
-        next,
+    *pot = Some(sketch);
+    Answer::Kept {
+        level: sketch.level,
+        cells: sketch.count,
     }
 }
 
 // `S n p a b capacity`: a refused one leaves the open sketch.
-fn answer_open(pot: Pot, settings: Settings, out: &mut [u8], at: usize) -> Told
-    requires { Room out.old at }
-    ensures { Tells out.old at (open_reply pot settings) out.new result }
+fn answer_open(pot: &mut Pot, settings: Settings) -> Result<Answer, Refusal>
+    ensures { Replies (open_reply pot.old settings) result pot.new }
 {
     let changed = Sketch::open(settings);
-    let answer = changed.answer;
-    let sketch = changed.sketch;
-    match answer {
-        Answer::Refused(number) => refuse(pot, number, out, at),
-        Answer::Done => keep(sketch, out, at),
-    }
+    changed.answer?;
+    Ok(keep(pot, changed.sketch))
 }
 
 // `A lo hi`: what is open is known to be a sketch, so that it isn't tested again.
-fn answer_add(pot: Pot, lo: u32, hi: u32, out: &mut [u8], at: usize) -> Told
-    requires { Sits pot × Room out.old at }
-    ensures { Tells out.old at (add_reply pot lo hi) out.new result }
+#[tactic(auto, using(crate::proofs::Replying::add_known))]
+fn answer_add(pot: &mut Pot, lo: u32, hi: u32) -> Result<Answer, Refusal>
+    requires { Sits pot.old }
+    ensures { Replies (add_reply pot.old lo hi) result pot.new }
 {
-    let answer = sketch::order::add_answer(pot.opened, pot.sketch.settings, lo, hi);
-    match answer {
-        Answer::Refused(refusal) => refuse(pot, refusal, out, at),
-        Answer::Done => {
-            let next = pot.sketch.added(lo, hi);
-            keep(next, out, at)
-        }
+    let sketch = pot.as_ref().ok_or(Refusal::NotOne)?;
+    sketch::order::add_answer(true, sketch.settings, lo, hi)?;
+    let next = sketch.added(lo, hi);
+    Ok(keep(pot, next))
+}
+
+// The answer to a command, or why it is refused, and the pot after it.
+#[tactic(auto, unfolding(crate::specs::Replies::reply_to))]
+fn reply(pot: &mut Pot, command: Option<Command>) -> Result<Answer, Refusal>
+    requires { Sits pot.old }
+    ensures { Replies (reply_to pot.old command) result pot.new }
+{
+    match command.ok_or(Refusal::Line)? {
+        Command::Settings(settings) => answer_open(pot, settings),
+        Command::Add { lo, hi } => answer_add(pot, lo, hi),
+        Command::Estimate => tell_estimate(pot),
+        Command::Count { level, lo, hi } => tell_count(pot, level, lo, hi),
+        Command::Next { level, from } => tell_next(pot, level, from),
     }
 }
 
-// `E`, `C` and `N`: the pot stays.
-fn answer_estimate(pot: Pot, out: &mut [u8], at: usize) -> Told
-    requires { Room out.old at }
-    ensures { Tells out.old at (estimate_reply pot) out.new result }
+// The answer to a line without its newline, stored from a place on; the place after it.
+pub fn answer(pot: &mut Pot, text: &[u8], out: &mut [u8], at: usize) -> usize
+    requires { Sits pot.old × Room out.old at }
+    ensures { Tells out.old at (reply_of pot.old text.now) out.new pot.new result }
 {
-    let next = tell_estimate(
-        pot.opened,
-        pot.sketch.settings,
-        pot.sketch.level,
-        pot.sketch.count,
-        out,
-        at,
-    );
-    Told { pot, next }
-}
-
-fn answer_count(pot: Pot, level: u32, lo: u32, hi: u32, out: &mut [u8], at: usize) -> Told
-    requires { Room out.old at }
-    ensures { Tells out.old at (count_reply pot level lo hi) out.new result }
-{
-    let next = tell_count(pot.opened, pot.sketch.settings, level, lo, hi, out, at);
-    Told { pot, next }
-}
-
-fn answer_next(pot: Pot, level: u32, from: u32, out: &mut [u8], at: usize) -> Told
-    requires { Room out.old at }
-    ensures { Tells out.old at (next_reply pot level from) out.new result }
-{
-    let next = tell_next(pot.opened, pot.sketch.settings, level, from, out, at);
-    Told { pot, next }
-}
-
-// The answer to a line without its newline, stored from a place on.
-pub fn answer(pot: Pot, text: &[u8], out: &mut [u8], at: usize) -> Told
-    requires { Sits pot × Room out.old at }
-    ensures { Tells out.old at (reply_of pot text.now) out.new result }
-{
-    let command = line::command(text);
-    match command {
-        Command::Settings {
-            n,
-            p,
-            a,
-            b,
-            capacity,
-        } => {
-            let settings = Settings {
-                n,
-                p,
-                a,
-                b,
-                capacity,
-            };
-            answer_open(pot, settings, out, at)
-        }
-        Command::Add { lo, hi } => answer_add(pot, lo, hi, out, at),
-        Command::Estimate => answer_estimate(pot, out, at),
-        Command::Count { level, lo, hi } => answer_count(pot, level, lo, hi, out, at),
-        Command::Next { level, from } => answer_next(pot, level, from, out, at),
-        Command::Unknown => refuse(pot, BAD_LINE, out, at),
-    }
+    let answer = reply(pot, line::command(text));
+    line::put(out, at, answer)
 }
 
 // Takes bytes of a piece of the input until it ends, or until an answer might not have room. The
@@ -189,23 +113,24 @@ pub fn feed(evening: Evening, input: &[u8], out: &mut [u8]) -> Fed
     requires { Sitting evening }
     ensures { Feeds evening input.now out.old out.new result }
 {
-    let mut pot = evening.pot;
-    let mut length = evening.length;
-    let mut line = evening.line;
-    let room = out.len();
-    let mut written = 0;
+    let Evening {
+        mut pot,
+        mut length,
+        mut line,
+    } = evening;
     let mut taken = 0;
-    while taken < input.len() && ROOM <= room - written {
-        let x = input[taken];
-        taken = taken + 1;
-        if x == b'\n' {
-            let told = answer(pot, &line[..length], out, written);
-            pot = told.pot;
+    let mut written = 0;
+    for x in input {
+        if out.len() - written < ROOM {
+            break;
+        }
+        taken += 1;
+        if *x == b'\n' {
+            written = answer(&mut pot, &line[..length], out, written);
             length = 0;
-            written = told.next;
         } else if length < LINE {
-            line[length] = x;
-            length = length + 1;
+            line[length] = *x;
+            length += 1;
         }
     }
     Fed {
@@ -216,15 +141,18 @@ pub fn feed(evening: Evening, input: &[u8], out: &mut [u8]) -> Fed
 }
 
 // The answer to a last line without a newline, and how many bytes it has.
+#[tactic(auto, unfolding(crate::specs::Runs::rest))]
 pub fn finish(evening: Evening, out: &mut [u8]) -> usize
     requires { Sitting evening × Room out.old 0 }
     ensures { Stored out.old 0 (rest evening) result out.new }
 {
-    let length = evening.length;
+    let Evening {
+        mut pot,
+        length,
+        line,
+    } = evening;
     if length == 0 {
         return 0;
     }
-    let line = evening.line;
-    let told = answer(evening.pot, &line[..length], out, 0);
-    told.next
+    answer(&mut pot, &line[..length], out, 0)
 }

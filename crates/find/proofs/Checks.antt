@@ -3,7 +3,7 @@
 --     and_parts           two tests that hold together
 --     settings-first, level_second, range_third, none_left    the refusals 1, 3, 2 in this order, and then none
 --     at_told, unless-told, all_told     an answer says that the tests held
---     refused-so, answered-so, all_held    what the number of its refusal says of a call
+--     refused-so, answered-so, all_held    what its refusal, or that there is none, says of a call
 --     range_facts     a range's test as facts
 --     within-range, within_cell     what passes the tests is what the inner calls take
 -- Assumes nothing.
@@ -13,10 +13,13 @@ use mathlib.Core.List.{List, []}
 use Prim.Native.Nat.{ℕ, ◌≤◌}
 use native.Mathlib.Omega.{arith}
 use lib.Dec.{leb}
-use borrow.Author.Tests.{leb-true, eq-eqb, ne_eqb}
+use borrow.Author.Tests.{leb-true}
+use Rattle.std.specs.Prelude.{Result, Ok, Err}
+use Rattle.rule.specs.declared.refusals.Refusal.{Refusal}
+use Rattle.rule.specs.declared.refusals.Refusal.TheVariants as refusal
 use Rattle.rule.specs.declared.Settings.{Settings}
 use Rattle.rule.specs.Rule.{is_good, top}
-use Rattle.rule.specs.Refusals.{Paper, answered, refused, unless, unless_at, bad_settings, bad_level, bad_range}
+use Rattle.rule.specs.Refusals.{Paper, answered, refused, unless, unless_at, number_of, bad_settings, bad_level, bad_range}
 use Rattle.rule.proofs.Facts.{good_facts}
 use Rattle.find.specs.Finding.{is_cell, in_range, on_settings, Refuses, Within}
 
@@ -31,17 +34,17 @@ pub and_parts : (t u : Bool) → (t && u) ≡ true → (t ≡ true) × (u ≡ tr
 and_parts true u e = (refl, e)
 and_parts false u e = absurd (false≢true e)
 
--- the number that the tests in order give
-pub settings-first : (s : Settings) (level : ℕ) (t : Bool) → is_good s ≡ false → Refuses s level t bad_settings
+-- the refusal that the tests in order give
+pub settings-first : (s : Settings) (level : ℕ) (t : Bool) → is_good s ≡ false → Refuses s level t (Err refusal.Settings)
 settings-first s level t g = record { so = λ x. cc }
 
-pub level_second : (s : Settings) (level : ℕ) (t : Bool) → is_good s ≡ true → leb level (top s) ≡ false → Refuses s level t bad_level
+pub level_second : (s : Settings) (level : ℕ) (t : Bool) → is_good s ≡ true → leb level (top s) ≡ false → Refuses s level t (Err refusal.Level)
 level_second s level t g l = record { so = λ x. cc }
 
-pub range_third : (s : Settings) (level : ℕ) (t : Bool) → is_good s ≡ true → leb level (top s) ≡ true → t ≡ false → Refuses s level t bad_range
+pub range_third : (s : Settings) (level : ℕ) (t : Bool) → is_good s ≡ true → leb level (top s) ≡ true → t ≡ false → Refuses s level t (Err refusal.Range)
 range_third s level t g l r = record { so = λ x. cc }
 
-pub none_left : (s : Settings) (level : ℕ) (t : Bool) → is_good s ≡ true → leb level (top s) ≡ true → t ≡ true → Refuses s level t 0
+pub none_left : (s : Settings) (level : ℕ) (t : Bool) → is_good s ≡ true → leb level (top s) ≡ true → t ≡ true → Refuses s level t (Ok tt)
 none_left s level t g l r = record { so = λ x. cc }
 
 pub at_told : (t : Bool) (number place : ℕ) (x : Paper) (values : List ℕ) → unless_at t number place x ≡ answered values → (t ≡ true) × (x ≡ answered values)
@@ -60,14 +63,14 @@ all_told s level t x values e =
     (g.0, l.0, r.0, r.1)
 
 -- t is the range's test as a call made it, and d what that is promised to be
-module _ {s : Settings} {level number : ℕ} {t d : Bool} (e : t ≡ d) (r : Refuses s level t number) where
-  pub refused-so : (x : Paper) → ¬ (number ≡ 0) → refused number 0 ≡ on_settings s level d x
-  refused-so x n = let z = ne_eqb number 0 n in let y = r.so x in cc
+module _ {s : Settings} {level : ℕ} {t d : Bool} {r : Result (Unit {0}) Refusal} (e : t ≡ d) (h : Refuses s level t r) where
+  pub refused-so : (x : Paper) {refusal : Refusal} → r ≡ Err refusal → refused (number_of refusal) 0 ≡ on_settings s level d x
+  refused-so x n = let y = h.so x in cc
 
-  pub answered-so : (x : Paper) → number ≡ 0 → x ≡ on_settings s level d x
-  answered-so x n = let z = eq-eqb number 0 n in let y = r.so x in cc
+  pub answered-so : (x : Paper) {done : Unit {0}} → r ≡ Ok done → x ≡ on_settings s level d x
+  answered-so x n = let y = h.so x in cc
 
-  pub all_held : number ≡ 0 → (is_good s ≡ true) × (d ≡ true)
+  pub all_held : {done : Unit {0}} → r ≡ Ok done → (is_good s ≡ true) × (d ≡ true)
   all_held n = let t = all_told s level d (answered []) [] (sym (answered-so (answered []) n)) in (t.0, t.2)
 
 pub range_facts : (s : Settings) (lo hi : ℕ) → in_range s lo hi ≡ true → (1 ≤ lo) × (lo ≤ hi) × (hi ≤ s.n)

@@ -12,7 +12,7 @@
 use mathlib.Core.Path.{◌≡◌, refl, sym, ap, ◌∙◌}
 use mathlib.Core.Bool.{Bool, true, false, cond}
 use mathlib.Core.List.{List, [], ◌∷◌, ◌++◌}
-use mathlib.Core.Option.{none}
+use Rattle.std.specs.Prelude.{None}
 use Prim.Native.Nat.{ℕ, zero, suc, ◌+◌, ◌-◌, ◌*◌, ◌%◌, ◌^◌, ◌≤◌, ◌<◌}
 use native.Mathlib.Omega.{arith}
 use native.Mathlib.Nat.{mod-lt, mod-add-mod, div-le_self}
@@ -127,14 +127,14 @@ count_each s level lo hi h =
 pub count_empty : (s : Settings) (level lo hi : ℕ) → hi < lo → range_count s level lo hi ≡ 0
 count_empty s level lo hi h = omega (arith, count_few s level lo hi)
 
-pub count_none : (s : Settings) (level lo hi : ℕ) → range_count s level lo hi ≡ 0 → next_hit s level lo hi ≡ none
+pub count_none : (s : Settings) (level lo hi : ℕ) → range_count s level lo hi ≡ 0 → next_hit s level lo hi ≡ None
 unfolding range_count next_hit
 count_none s level lo hi e = empty (filter (passes s level) (range lo hi)) e
   where
-    empty : (l : List ℕ) → length l ≡ 0 → first l ≡ none
+    empty : (l : List ℕ) → length l ≡ 0 → first l ≡ None
     empty [] h = refl
     empty (x ∷ xs) h = absurd (omega arith)
 
-pub none_count : (s : Settings) (level lo hi : ℕ) → next_hit s level lo hi ≡ none → range_count s level lo hi ≡ 0
+pub none_count : (s : Settings) (level lo hi : ℕ) → next_hit s level lo hi ≡ None → range_count s level lo hi ≡ 0
 unfolding range_count
 none_count s level lo hi e = ap length (walk_none s level lo hi e)

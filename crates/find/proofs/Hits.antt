@@ -9,7 +9,7 @@
 use mathlib.Core.Path.{◌≡◌, refl, ap, ◌∙◌}
 use mathlib.Core.Bool.{Bool, true, false, ◌&&◌}
 use mathlib.Core.List.{List, [], ◌∷◌, ◌++◌}
-use mathlib.Core.Option.{Option, some, none}
+use Rattle.std.specs.Prelude.{Option, Some, None}
 use Prim.Native.Nat.{ℕ, suc, ◌+◌, ◌-◌, ◌*◌, ◌%◌, ◌≤◌, ◌<◌}
 use native.Mathlib.Omega.{arith}
 use lib.Dec.{leb, ltb, eqb}
@@ -21,18 +21,16 @@ use Rattle.rule.specs.declared.Settings.{Settings}
 use Rattle.rule.specs.Cells.{Cells}
 use Rattle.rule.specs.Rule.{Good, region, passes}
 use Rattle.rule.specs.Samples.{next_hit, first}
-use Rattle.rule.specs.Refusals.{answered}
+use Rattle.rule.specs.Refusals.{answered, hits}
 use Rattle.rule.proofs.Facts.{positive}
 use Rattle.rule.proofs.Passing.{passes-zero}
 use Rattle.rule.proofs.NextHits.{next_some}
 use Rattle.next.specs.Hit.{Finds, Progression}
-use Rattle.next.specs.declared.Index.{Index}
-use Rattle.next.specs.declared.Index.TheVariants.{At, Nothing}
 use Rattle.next.proofs.Laws.{answer_at, answer-nothing}
 use Rattle.find.proofs.Checks.{and_parts}
 use Rattle.find.proofs.Counting.{hash-step, hash_below}
 use Rattle.find.specs.declared.Hashes.{Hashes}
-use Rattle.find.specs.Finding.{hits, Within, Handed}
+use Rattle.find.specs.Finding.{Within, Handed}
 
 -- no cell of a run is in a set
 run_none : (X : Cells) (lo k : ℕ) → ((i : ℕ) → i < k → X (lo + i) ≡ false) → filter X (run lo k) ≡ []
@@ -43,7 +41,7 @@ run_none X lo k f =
     ap X e ∙ f (x - lo) (omega arith))
 
 -- the least one is the first
-run-first : (X : Cells) (lo k i : ℕ) → i < k → X (lo + i) ≡ true → ((j : ℕ) → j < i → X (lo + j) ≡ false) → first (filter X (run lo k)) ≡ some (lo + i)
+run-first : (X : Cells) (lo k i : ℕ) → i < k → X (lo + i) ≡ true → ((j : ℕ) → j < i → X (lo + j) ≡ false) → first (filter X (run lo k)) ≡ Some (lo + i)
 run-first X lo k i h t f =
     let cut : k ≡ i + suc (k - suc i) = omega arith in
     ap (λ (j : ℕ). first (filter X (run lo j))) cut
@@ -53,7 +51,7 @@ run-first X lo k i h t f =
     ∙ ap (λ (b : Bool). first (keep b (lo + i) (filter X (run (suc (lo + i)) (k - suc i))))) t
 
 -- at level 0 the first cell is the one
-pub first_cell : (s : Settings) (level lo hi : ℕ) → Good s → (eqb level 0 && leb lo hi) ≡ true → next_hit s level lo hi ≡ some lo
+pub first_cell : (s : Settings) (level lo hi : ℕ) → Good s → (eqb level 0 && leb lo hi) ≡ true → next_hit s level lo hi ≡ Some lo
 unfolding next_hit
 first_cell s level lo hi g e =
     let t = and_parts (eqb level 0) (leb lo hi) e in
@@ -73,26 +71,26 @@ module _ (s : Settings) (level lo hi : ℕ) (h : Hashes) (f : Handed s level lo 
   unfolding passes
   hit-passes i = rw (f.modulus, f.step, f.start, f.size) (ap (λ (y : ℕ). ltb y (region s level)) (hash-step s lo i))
 
-  pub found_at : (i : ℕ) (x : Index) → Finds h.p h.a h.start h.size h.cells x → x ≡ At i → next_hit s level lo hi ≡ some (lo + i)
+  pub found_at : (i : ℕ) (x : Option ℕ) → Finds h.p h.a h.start h.size h.cells x → x ≡ Some i → next_hit s level lo hi ≡ Some (lo + i)
   unfolding next_hit
   found_at i x g e =
       let t = answer_at h.p h.a h.start h.size h.cells i x g e in
       run-first (passes s level) lo (suc hi - lo) i (rw (← f.cells) t.0) (hit-passes i ∙ t.1) (λ j b. hit-passes j ∙ t.2 j b)
 
-  pub found_nothing : (x : Index) → Finds h.p h.a h.start h.size h.cells x → x ≡ Nothing → next_hit s level lo hi ≡ none
+  pub found_nothing : (x : Option ℕ) → Finds h.p h.a h.start h.size h.cells x → x ≡ None → next_hit s level lo hi ≡ None
   unfolding next_hit
   found_nothing x g e =
       ap first (run_none (passes s level) lo (suc hi - lo) (λ i b.
       hit-passes i ∙ answer-nothing h.p h.a h.start h.size h.cells x g e i (rw f.cells b)))
 
 -- an answer with a cell, and one with none
-pub hit-some : (o : Option ℕ) (x : ℕ) → answered (x ∷ []) ≡ answered (hits o) → o ≡ some x
-hit-some none x e = cc
-hit-some (some y) x e = cc
+pub hit-some : (o : Option ℕ) (x : ℕ) → answered (x ∷ []) ≡ answered (hits o) → o ≡ Some x
+hit-some None x e = cc
+hit-some (Some y) x e = cc
 
-pub hit-none : (o : Option ℕ) → answered [] ≡ answered (hits o) → o ≡ none
-hit-none none e = refl
-hit-none (some y) e = cc
+pub hit-none : (o : Option ℕ) → answered [] ≡ answered (hits o) → o ≡ None
+hit-none None e = refl
+hit-none (Some y) e = cc
 
 pub hit-within : (s : Settings) (level lo hi x : ℕ) → answered (x ∷ []) ≡ answered (hits (next_hit s level lo hi)) → (lo ≤ x) × (x ≤ hi)
 hit-within s level lo hi x e =

@@ -5,34 +5,32 @@
 use mathlib.Core.Path.{◌≡◌, sym, ap, ◌∙◌}
 use Prim.Native.Nat.{ℕ}
 use Rattle.rule.specs.declared.Settings.{Settings}
-use Rattle.rule.specs.declared.answers.Answer.{Answer}
-use Rattle.rule.specs.declared.answers.Counted.{Counted}
-use Rattle.rule.specs.declared.answers.Found.{Found}
+use Rattle.rule.specs.declared.refusals.Refusal.{Refusal}
+use Rattle.std.specs.Prelude.{Option, Result}
 use Rattle.rule.specs.Samples.{next_hit}
-use Rattle.rule.specs.Refusals.{answered, of_counted, of_found}
+use Rattle.rule.specs.Refusals.{of_counted, of_found}
 use Rattle.rule.proofs.Readings.{answer-one, counted-one, found-one}
 use Rattle.find.specs.declared.Walker.{Walker}
 use Rattle.find.specs.declared.Started.{Started}
 use Rattle.find.specs.declared.Stepped.{Stepped}
-use Rattle.find.specs.Finding.{count_on, next_on, hits}
+use Rattle.find.specs.Finding.{count_on, next_on}
 use Rattle.find.specs.Walking.{Starts, Steps}
 
-pub count_tight : (s : Settings) (level lo hi : ℕ) (x y : Counted) → of_counted x ≡ count_on s level lo hi → of_counted y ≡ count_on s level lo hi → x ≡ y
+pub count_tight : (s : Settings) (level lo hi : ℕ) (x y : Result ℕ Refusal) → of_counted x ≡ count_on s level lo hi → of_counted y ≡ count_on s level lo hi → x ≡ y
 count_tight s level lo hi x y e f = counted-one x y (e ∙ sym f)
 
-pub next_tight : (s : Settings) (level from : ℕ) (x y : Found) → of_found x ≡ next_on s level from → of_found y ≡ next_on s level from → x ≡ y
+pub next_tight : (s : Settings) (level from : ℕ) (x y : Result (Option ℕ) Refusal) → of_found x ≡ next_on s level from → of_found y ≡ next_on s level from → x ≡ y
 next_tight s level from x y e f = found-one x y (e ∙ sym f)
 
-pub first_tight : (s : Settings) (level lo hi : ℕ) (x y : Found)
-    → of_found x ≡ answered (hits (next_hit s level lo hi)) → of_found y ≡ answered (hits (next_hit s level lo hi)) → x ≡ y
-first_tight s level lo hi x y e f = found-one x y (e ∙ sym f)
+pub first_tight : (s : Settings) (level lo hi : ℕ) (x y : Option ℕ) → x ≡ next_hit s level lo hi → y ≡ next_hit s level lo hi → x ≡ y
+first_tight s level lo hi x y e f = e ∙ sym f
 
 pub open_tight : (s : Settings) (level lo hi : ℕ) (x y : Started) → Starts s level lo hi x → Starts s level lo hi y → x ≡ y
 open_tight s level lo hi x y e f =
-    ap (λ (a : Answer). record { answer = a; walker = x.walker }) (answer-one x.answer y.answer (e.answer ∙ sym f.answer))
+    ap (λ (a : Result (Unit {0}) Refusal). record { answer = a; walker = x.walker }) (answer-one x.answer y.answer (e.answer ∙ sym f.answer))
     ∙ ap (λ (w : Walker). record { answer = y.answer; walker = w }) (e.walker ∙ sym f.walker)
 
 pub step_tight : (w : Walker) (x y : Stepped) → Steps w x → Steps w y → x ≡ y
 step_tight w x y e f =
-    ap (λ (a : Found). record { found = a; walker = x.walker }) (found-one x.found y.found (e.answer ∙ sym f.answer))
+    ap (λ (a : Result (Option ℕ) Refusal). record { found = a; walker = x.walker }) (found-one x.found y.found (e.answer ∙ sym f.answer))
     ∙ ap (λ (v : Walker). record { found = y.found; walker = v }) (e.walker ∙ sym f.walker)

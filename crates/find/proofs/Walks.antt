@@ -1,9 +1,8 @@
 -- The laws of the walker.
 --     IsOne, walker_facts, facts_walker    what makes a walker, as facts and as the test `is_walker`
 --     walker-within   what a walker has still to pass is a range
---     tests-not, tests-all    what `good` answers, by cases
 --     starts_refused, starts_done    what `open` answers
---     steps_refused, steps_cell, steps_nothing, steps_never    what `step` answers
+--     steps_refused, steps_cell, steps_nothing    what `step` answers
 --     step-some, step-none    a step where there is a next hit, and where there is none
 --     start-good      what opening hands back unrefused is a walker
 --     none_stays, none_ever     none changes nothing in a walker, so it is none for ever
@@ -12,32 +11,28 @@
 --     walk-all        a full walk yields the passing cells, rising, each once
 -- Assumes nothing.
 use mathlib.Core.Path.{◌≡◌, refl, sym, ap, ◌∙◌}
-use mathlib.Core.Bool.{Bool, true, false, ◌&&◌}
+use mathlib.Core.Bool.{true, false}
 use mathlib.Core.List.{List, [], ◌∷◌, ◌++◌}
-use mathlib.Core.Option.{Option, some, none}
+use Rattle.std.specs.Prelude.{Option, Some, None, Ok, Err}
 use Prim.Native.Nat.{ℕ, zero, suc, ◌+◌, ◌-◌, ◌≤◌}
 use native.Mathlib.Omega.{arith}
 use native.Mathlib.Numerals.{add-one}
-use lib.Dec.{leb}
 use lib.ListN.{length}
 use borrow.Author.Tests.{leb-true, le-leb}
 use Rattle.lists.specs.Lists.{filter, range}
 use Rattle.rule.specs.declared.Settings.{Settings}
-use Rattle.rule.specs.Rule.{Good, is_good, passes, top}
+use Rattle.rule.specs.Rule.{Good, passes, top}
 use Rattle.rule.specs.Samples.{range_count, next_hit}
-use Rattle.rule.specs.Refusals.{Paper, answered, refused, not_one, of_answer, of_found}
-use Rattle.rule.specs.declared.answers.Answer.TheVariants as answer
-use Rattle.rule.specs.declared.answers.Found.{Found}
-use Rattle.rule.specs.declared.answers.Found.TheVariants as found
+use Rattle.rule.specs.Refusals.{Paper, answered, refused, not_one, number_of, of_answer, hits}
+use Rattle.rule.specs.declared.refusals.Refusal.{Refusal}
+use Rattle.rule.specs.declared.refusals.Refusal.TheVariants as refusal
 use Rattle.rule.proofs.Facts.{good_facts, facts_good}
 use Rattle.rule.proofs.NextHits.{next_some, walk-some, walk_none}
 use Rattle.find.specs.declared.Walker.{Walker}
-use Rattle.find.specs.Finding.{is_cell, in_range, Within, hits}
+use Rattle.find.specs.Finding.{in_range, Within}
 use Rattle.find.specs.Walking.{walker_at, no_walker, start_on, started, Starts, is_walker, step_on, moved, after_step, Steps, yielded, walk}
 use Rattle.find.specs.declared.Started.{Started}
-use Rattle.find.specs.declared.Stepped.{Stepped}
 use Rattle.find.proofs.Checks.{and_parts, all_told, range_facts}
-use Rattle.find.proofs.Hits.{hit-some, hit-none}
 
 -- what makes a walker
 pub record IsOne (w : Walker) : Type 0 where
@@ -82,24 +77,14 @@ walker-within w e =
     let f = walker_facts w e in
     record { good = f.good; low = f.low; start = omega (arith, f.start); last = f.last }
 
--- the tests of `good`, from what its calls promise
-pub tests-not : (w : Walker) → is_good w.settings ≡ false → false ≡ is_walker w
-unfolding is_walker
-tests-not w g = cc
-
-pub tests-all : (w : Walker) (l h : Bool) (x y : ℕ) → is_good w.settings ≡ true
-    → l ≡ leb w.level (top w.settings) → h ≡ is_cell w.settings w.hi → x ≡ w.at → y ≡ w.hi
-    → (l && (h && (leb 1 w.at && leb x (y + 1)))) ≡ is_walker w
-unfolding is_walker
-tests-all w l h x y g el eh ex ey = cc
-
 -- opening, refused and not
-pub starts_refused : (s : Settings) (level lo hi number : ℕ) (r : Started)
-    → (of_answer r.answer ≡ refused number 0) × (r.walker ≡ no_walker) → refused number 0 ≡ start_on s level lo hi → Starts s level lo hi r
-starts_refused s level lo hi number r h e = record { answer = h.0 ∙ e; walker = h.1 ∙ ap (λ (a : Paper). started a (walker_at s level lo hi)) e }
+pub starts_refused : (s : Settings) (level lo hi : ℕ) (refusal : Refusal) (r : Started) → (r.answer ≡ Err refusal) × (r.walker ≡ no_walker)
+    → refused (number_of refusal) 0 ≡ start_on s level lo hi → Starts s level lo hi r
+starts_refused s level lo hi refusal r h e =
+    record { answer = ap of_answer h.0 ∙ e; walker = h.1 ∙ ap (λ (a : Paper). started a (walker_at s level lo hi)) e }
 
 pub starts_done : (s : Settings) (level lo hi : ℕ) → answered [] ≡ start_on s level lo hi
-    → Starts s level lo hi (record { answer = answer.Done; walker = walker_at s level lo hi })
+    → Starts s level lo hi (record { answer = Ok tt; walker = walker_at s level lo hi })
 starts_done s level lo hi e = record { answer = e; walker = ap (λ (a : Paper). started a (walker_at s level lo hi)) e }
 
 pub start-good : (s : Settings) (level lo hi : ℕ) → start_on s level lo hi ≡ answered [] → is_walker (walker_at s level lo hi) ≡ true
@@ -125,11 +110,11 @@ step_is : (w : Walker) (o : Option ℕ) → is_walker w ≡ true → ahead w ≡
 unfolding step_on
 step_is w o g e = cc
 
-pub step-some : (w : Walker) (x : ℕ) → is_walker w ≡ true → ahead w ≡ some x
+pub step-some : (w : Walker) (x : ℕ) → is_walker w ≡ true → ahead w ≡ Some x
     → (step_on w ≡ answered (x ∷ [])) × (after_step w ≡ walker_at w.settings w.level (x + 1) w.hi)
 unfolding after_step
 step-some w x g e =
-    let is : step_on w ≡ answered (x ∷ []) = step_is w (some x) g e in
+    let is : step_on w ≡ answered (x ∷ []) = step_is w (Some x) g e in
     (is, ap (λ (a : Paper). moved a w) is)
 
 pub none_stays : (w : Walker) → step_on w ≡ answered [] → after_step w ≡ w
@@ -141,36 +126,29 @@ unfolding walk
 none_ever w zero e = refl
 none_ever w (suc k) e = ap (λ (a : Paper). yielded a ++ walk k (after_step w)) e ∙ ap (walk k) (none_stays w e) ∙ none_ever w k e
 
-pub step-none : (w : Walker) → is_walker w ≡ true → ahead w ≡ none → (step_on w ≡ answered []) × (after_step w ≡ w)
-step-none w g e = let is : step_on w ≡ answered [] = step_is w none g e in (is, none_stays w is)
+pub step-none : (w : Walker) → is_walker w ≡ true → ahead w ≡ None → (step_on w ≡ answered []) × (after_step w ≡ w)
+step-none w g e = let is : step_on w ≡ answered [] = step_is w None g e in (is, none_stays w is)
 
--- a step by what `first_in` found, r
-pub steps_refused : (w : Walker) → is_walker w ≡ false → Steps w (record { found = found.Refused not_one; walker = w })
+-- a step by what `first_in` found
+pub steps_refused : (w : Walker) → is_walker w ≡ false → Steps w (record { found = Err refusal.NotOne; walker = w })
 unfolding step_on after_step
 steps_refused w g =
     let e : refused not_one 0 ≡ step_on w = cc in
     record { answer = e; walker = ap (λ (a : Paper). moved a w) e }
 
-module _ (w : Walker) (r : Found) (g : is_walker w ≡ true) (f : of_found r ≡ answered (hits (ahead w))) where
-  pub steps_cell : (x : ℕ) → r ≡ found.Cell x → Steps w (record { found = found.Cell x; walker = walker_at w.settings w.level (x + 1) w.hi })
-  steps_cell x e =
-      let s = step-some w x g (hit-some (ahead w) x (sym (ap of_found e) ∙ f)) in
-      record { answer = sym s.0; walker = sym s.1 }
+pub steps_cell : (w : Walker) (x : ℕ) → is_walker w ≡ true → ahead w ≡ Some x
+    → Steps w (record { found = Ok (Some x); walker = walker_at w.settings w.level (x + 1) w.hi })
+steps_cell w x g e = let s = step-some w x g e in record { answer = sym s.0; walker = sym s.1 }
 
-  pub steps_nothing : r ≡ found.Nothing → Steps w (record { found = found.Nothing; walker = w })
-  steps_nothing e =
-      let s = step-none w g (hit-none (ahead w) (sym (ap of_found e) ∙ f)) in
-      record { answer = sym s.0; walker = sym s.1 }
-
-  pub steps_never : (number : ℕ) (o : Stepped) → r ≡ found.Refused number → Steps w o
-  steps_never number o e = let z : ◌≡◌ {A = ℕ} 0 1 = cc in absurd (omega arith)
+pub steps_nothing : (w : Walker) → is_walker w ≡ true → ahead w ≡ None → Steps w (record { found = Ok None; walker = w })
+steps_nothing w g e = let s = step-none w g e in record { answer = sym s.0; walker = sym s.1 }
 
 pub step-good : (w : Walker) → is_walker w ≡ true → is_walker (after_step w) ≡ true
 step-good w g = by (ahead w) refl
   where
     by : (o : Option ℕ) → ahead w ≡ o → is_walker (after_step w) ≡ true
-    by none e = ap is_walker (step-none w g e).1 ∙ g
-    by (some x) e =
+    by None e = ap is_walker (step-none w g e).1 ∙ g
+    by (Some x) e =
         let f = walker_facts w g in
         let h = next_some w.settings w.level w.at w.hi x e in
         ap is_walker (step-some w x g e).1
@@ -187,12 +165,12 @@ pub step_left : (w : Walker) → is_walker w ≡ true
 step_left w g = by (ahead w) refl
   where
     by : (o : Option ℕ) → ahead w ≡ o → (left w ≡ yielded (step_on w) ++ left (after_step w)) × (length (left (after_step w)) ≤ length (left w) - 1)
-    by none e =
+    by None e =
         let s = step-none w g e in
         let nil : left w ≡ [] = walk_none w.settings w.level w.at w.hi e in
         let rest : left (after_step w) ≡ [] = ap left s.1 ∙ nil in
         (nil ∙ sym (ap (λ (a : Paper). yielded a ++ left (after_step w)) s.0 ∙ rest), omega (arith, ap length rest))
-    by (some x) e =
+    by (Some x) e =
         let s = step-some w x g e in
         let rest : left (after_step w) ≡ filter (passes w.settings w.level) (range (suc x) w.hi) =
         ap left s.1 ∙ ap (λ (y : ℕ). filter (passes w.settings w.level) (range y w.hi)) (add-one x) in

@@ -1,10 +1,10 @@
 -- What the range count and the next hit answer. Assumes nothing: these are definitions.
-use Rattle.std.specs.Prelude.{ℕ, suc, ◌-◌, ◌≤◌, ◌≡◌, Bool, ◌&&◌, List, [], ◌∷◌, leb, eqb}
-use Rattle.std.proofs.Math.Option.{Option, some, none}
+use Rattle.std.specs.Prelude.{ℕ, suc, ◌-◌, ◌≤◌, ◌≡◌, Bool, ◌&&◌, [], ◌∷◌, leb, Result, Ok, Err}
 use Rattle.rule.specs.declared.Settings.{Settings}
 use Rattle.rule.specs.Rule.{Good, is_good, hash, region, top}
 use Rattle.rule.specs.Samples.{range_count, next_hit}
-use Rattle.rule.specs.Refusals.{Paper, answered, unless, bad_settings, bad_range, bad_level}
+use Rattle.rule.specs.declared.refusals.Refusal.{Refusal}
+use Rattle.rule.specs.Refusals.{Paper, answered, refused, number_of, unless, bad_settings, bad_range, bad_level, hits}
 use Rattle.find.specs.declared.Hashes.{Hashes}
 
 -- x is a cell: one of 1..n
@@ -19,18 +19,18 @@ in_range s lo hi = leb 1 lo && (leb lo hi && leb hi s.n)
 abbrev pub on_settings : Settings → ℕ → Bool → Paper → Paper
 on_settings s level inside answer = unless (is_good s) bad_settings (unless (leb level (top s)) bad_level (unless inside bad_range answer))
 
--- number is that of the refusal, or 0 where nothing refuses
-pub record Refuses (s : Settings) (level : ℕ) (inside : Bool) (number : ℕ) : Type 0 where
-  pub so : (answer : Paper) → on_settings s level inside answer ≡ unless (eqb number 0) number answer
+-- an answer where nothing refuses, and otherwise the refusal
+abbrev pub behind : Result (Unit {0}) Refusal → Paper → Paper
+behind (Ok done) answer = answer
+behind (Err refusal) answer = refused (number_of refusal) 0
+
+-- r is the refusal, where one of the tests refuses
+pub record Refuses (s : Settings) (level : ℕ) (inside : Bool) (r : Result (Unit {0}) Refusal) : Type 0 where
+  pub so : (answer : Paper) → on_settings s level inside answer ≡ behind r answer
 
 -- the range count at a level over lo..hi (RULES: Range count)
 unfoldable pub count_on : Settings → ℕ → ℕ → ℕ → Paper
 count_on s level lo hi = on_settings s level (in_range s lo hi) (answered (range_count s level lo hi ∷ []))
-
--- a hit as the values of an answer
-abbrev pub hits : Option ℕ → List ℕ
-hits none = []
-hits (some x) = x ∷ []
 
 -- the next hit at a level from a cell up to n (RULES: Next hit)
 unfoldable pub next_on : Settings → ℕ → ℕ → Paper

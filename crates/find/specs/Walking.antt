@@ -3,11 +3,11 @@ use Rattle.std.specs.Prelude.{ℕ, zero, suc, ◌+◌, Bool, ◌&&◌, ◌≡◌
 use Rattle.rule.specs.declared.Settings.{Settings}
 use Rattle.rule.specs.Rule.{is_good, top, no_settings}
 use Rattle.rule.specs.Samples.{next_hit}
-use Rattle.rule.specs.Refusals.{Paper, answered, refused, unless, not_one, of_answer, of_found}
+use Rattle.rule.specs.Refusals.{Paper, answered, refused, unless, not_one, of_answer, of_found, hits}
 use Rattle.find.specs.declared.Walker.{Walker}
 use Rattle.find.specs.declared.Started.{Started}
 use Rattle.find.specs.declared.Stepped.{Stepped}
-use Rattle.find.specs.Finding.{is_cell, in_range, on_settings, hits}
+use Rattle.find.specs.Finding.{is_cell, in_range, on_settings}
 
 -- the walker at a position
 abbrev pub walker_at : Settings → ℕ → ℕ → ℕ → Walker

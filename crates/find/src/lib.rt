@@ -1,22 +1,14 @@
 // Counting and finding the passing cells of a range, without a walk over its cells.
 #![tactic(auto)]
 
-ghost use Rattle.std.specs.Prelude.{◌≡◌, ◌^◌, ◌<◌, ◌≤◌};
-ghost use Rattle.rule.specs.Rule.{Good};
+ghost use Rattle.std.specs.Prelude.{◌≡◌, Err};
 ghost use Rattle.rule.specs.Samples.{range_count, next_hit};
-ghost use Rattle.rule.specs.Refusals.{answered, refused, of_answer, of_counted, of_found};
-ghost use Rattle.find.specs.Finding.{is_cell, in_range, Refuses, count_on, next_on, hits, Within, Handed};
+ghost use Rattle.rule.specs.Refusals.{of_counted, of_found};
+ghost use Rattle.find.specs.Finding.{is_cell, in_range, Refuses, count_on, next_on, Within, Handed};
 ghost use Rattle.find.specs.Walking.{Starts, Steps, is_walker, no_walker};
 
 use rule::Settings;
-use rule::answers::{Answer, Counted, Found};
-use rule::refusals::{BAD_LEVEL, BAD_RANGE, BAD_SETTINGS, NOT_ONE};
-
-fn wide(x: u32) -> u64
-    ensures { (result ≡ x) × (x < 2 ^ 32) }
-{
-    x as u64
-}
+use rule::refusals::Refusal;
 
 // lo..hi are cells, and lo is not above hi.
 pub fn in_range(settings: Settings, lo: u32, hi: u32) -> bool
@@ -46,11 +38,11 @@ fn progression(settings: Settings, level: u32, lo: u32, hi: u32) -> Hashes
     ensures { Handed settings level lo hi result }
 {
     Hashes {
-        p: wide(settings.p),
-        a: wide(settings.a),
+        p: u64::from(settings.p),
+        a: u64::from(settings.a),
         start: settings.hash(lo),
-        cells: wide(hi) + 1 - wide(lo),
-        size: wide(settings.region(level)),
+        cells: u64::from(hi) + 1 - u64::from(lo),
+        size: u64::from(settings.region(level)),
     }
 }
 
@@ -73,62 +65,54 @@ pub fn count_in(settings: Settings, level: u32, lo: u32, hi: u32) -> u32
 }
 
 // The first cell of lo..hi that passes.
-pub fn first_in(settings: Settings, level: u32, lo: u32, hi: u32) -> Found
+pub fn first_in(settings: Settings, level: u32, lo: u32, hi: u32) -> Option<u32>
     requires { Within settings lo hi }
-    ensures { of_found result ≡ answered (hits (next_hit settings level lo hi)) }
+    ensures { result ≡ next_hit settings level lo hi }
 {
     // At level 0 every cell passes.
     if (level == 0) & (lo <= hi) {
-        return Found::Cell(lo);
+        return Some(lo);
     }
     let h = progression(settings, level, lo, hi);
-    match next::next_hit(h.p, h.a, h.start, h.size, h.cells) {
-        next::Index::At(i) => Found::Cell((wide(lo) + i) as u32),
-        next::Index::Nothing => Found::Nothing,
-    }
+    let i = next::next_hit(h.p, h.a, h.start, h.size, h.cells)?;
+    Some((u64::from(lo) + i) as u32)
 }
 
-// The number of the refusal of a call on settings, 0 where there is none. `inside` says whether the
-// call's range is right.
-fn first_refusal(settings: Settings, level: u32, inside: bool) -> u32
+// The refusal of a call on settings, where there is one. `inside` says whether the call's range is
+// right.
+fn first_refusal(settings: Settings, level: u32, inside: bool) -> Result<(), Refusal>
     ensures { Refuses settings level inside result }
 {
     if !settings.good() {
-        return BAD_SETTINGS;
+        return Err(Refusal::Settings);
     }
     if !settings.has_level(level) {
-        return BAD_LEVEL;
+        return Err(Refusal::Level);
     }
     if !inside {
-        return BAD_RANGE;
+        return Err(Refusal::Range);
     }
-    0
+    Ok(())
 }
 
 // How many cells of lo..hi pass at a level.
-pub fn count(settings: Settings, level: u32, lo: u32, hi: u32) -> Counted
+pub fn count(settings: Settings, level: u32, lo: u32, hi: u32) -> Result<u32, Refusal>
     ensures { of_counted result ≡ count_on settings level lo hi }
 {
-    let number = first_refusal(settings, level, in_range(settings, lo, hi));
-    if number != 0 {
-        return Counted::Refused(number);
-    }
-    Counted::Count(count_in(settings, level, lo, hi))
+    first_refusal(settings, level, in_range(settings, lo, hi))?;
+    Ok(count_in(settings, level, lo, hi))
 }
 
 // The least cell from `from` up to n that passes at a level.
-pub fn next_hit(settings: Settings, level: u32, from: u32) -> Found
+pub fn next_hit(settings: Settings, level: u32, from: u32) -> Result<Option<u32>, Refusal>
     ensures { of_found result ≡ next_on settings level from }
 {
-    let number = first_refusal(settings, level, is_cell(settings, from));
-    if number != 0 {
-        return Found::Refused(number);
-    }
-    first_in(settings, level, from, settings.n)
+    first_refusal(settings, level, is_cell(settings, from))?;
+    Ok(first_in(settings, level, from, settings.n))
 }
 
 // A walker over the passing cells up to hi, from its position on.
-#[derive(Clone, Copy)]
+#[derive(Clone, Copy, PartialEq, Eq)]
 pub struct Walker {
     pub settings: Settings,
     pub level: u32,
@@ -136,24 +120,25 @@ pub struct Walker {
     pub hi: u32,
 }
 
+// A refusal hands a walker back too, so the answer stands beside it.
 #[derive(Clone, Copy)]
 pub struct Started {
-    pub answer: Answer,
+    pub answer: Result<(), Refusal>,
     pub walker: Walker,
 }
 
 #[derive(Clone, Copy)]
 pub struct Stepped {
-    pub found: Found,
+    pub found: Result<Option<u32>, Refusal>,
     pub walker: Walker,
 }
 
-// The walker of all zeros, with the refusal's number.
-fn not_started(number: u32) -> Started
-    ensures { (of_answer result.answer ≡ refused number 0) × (result.walker ≡ no_walker) }
+// The walker of all zeros, with the refusal.
+fn not_started(refusal: Refusal) -> Started
+    ensures { (result.answer ≡ Err refusal) × (result.walker ≡ no_walker) }
 {
     Started {
-        answer: Answer::Refused(number),
+        answer: Err(refusal),
         walker: Walker {
             settings: rule::no_settings(),
             level: 0,
@@ -167,12 +152,11 @@ impl Walker {
     pub fn open(settings: Settings, level: u32, lo: u32, hi: u32) -> Started
         ensures { Starts settings level lo hi result }
     {
-        let number = first_refusal(settings, level, in_range(settings, lo, hi));
-        if number != 0 {
-            return not_started(number);
+        if let Err(refusal) = first_refusal(settings, level, in_range(settings, lo, hi)) {
+            return not_started(refusal);
         }
         Started {
-            answer: Answer::Done,
+            answer: Ok(()),
             walker: Walker {
                 settings,
                 level,
@@ -182,15 +166,14 @@ impl Walker {
         }
     }
 
+    #[tactic(auto, unfolding(crate::specs::Walking::is_walker))]
     pub fn good(self) -> bool
         ensures { result ≡ is_walker self }
     {
-        let settings = self.settings;
-        if !settings.good() {
-            return false;
-        }
-        settings.has_level(self.level)
-            & (is_cell(settings, self.hi) & ((1 <= self.at) & (wide(self.at) <= wide(self.hi) + 1)))
+        self.settings.good()
+            & (self.settings.has_level(self.level)
+                & (is_cell(self.settings, self.hi)
+                    & ((1 <= self.at) & (u64::from(self.at) <= u64::from(self.hi) + 1))))
     }
 
     // The next passing cell, and the walker after it.
@@ -199,31 +182,17 @@ impl Walker {
     {
         if !self.good() {
             return Stepped {
-                found: Found::Refused(NOT_ONE),
+                found: Err(Refusal::NotOne),
                 walker: self,
             };
         }
-        let settings = self.settings;
-        let level = self.level;
-        let hi = self.hi;
-        let found = first_in(settings, level, self.at, hi);
-        match found {
-            Found::Cell(x) => Stepped {
-                found: Found::Cell(x),
-                walker: Walker {
-                    settings,
-                    level,
-                    at: x + 1,
-                    hi,
-                },
+        match first_in(self.settings, self.level, self.at, self.hi) {
+            Some(x) => Stepped {
+                found: Ok(Some(x)),
+                walker: Walker { at: x + 1, ..self },
             },
-            Found::Nothing => Stepped {
-                found: Found::Nothing,
-                walker: self,
-            },
-            // `first_in` refuses nothing.
-            Found::Refused(number) => Stepped {
-                found: Found::Refused(number),
+            None => Stepped {
+                found: Ok(None),
                 walker: self,
             },
         }

@@ -18,9 +18,9 @@ use lib.ListN.{length, replicate}
 use Rattle.rule.specs.declared.Settings.{Settings}
 use Rattle.rule.specs.Rule.{is_good, top}
 use Rattle.rule.specs.Samples.{range_count, next_hit}
-use Rattle.rule.specs.Refusals.{Outcome, Paper, answered, refused, unless, unless_at, bad_settings, bad_range, bad_level, not_one, no_room, bad_check, bad_image}
+use Rattle.rule.specs.Refusals.{Outcome, Paper, answered, refused, unless, unless_at, bad_settings, bad_range, bad_level, not_one, no_room, bad_check, bad_image, hits}
 use Rattle.find.specs.declared.Walker.{Walker}
-use Rattle.find.specs.Finding.{is_cell, in_range, on_settings, hits, count_on, next_on}
+use Rattle.find.specs.Finding.{is_cell, in_range, on_settings, count_on, next_on}
 use Rattle.find.specs.Walking.{start_on, is_walker, step_on, walker_at, started, moved, after_step}
 use Rattle.sketch.specs.declared.Sketch.{Sketch}
 use Rattle.sketch.specs.Estimates.{Weight, exactly, about}

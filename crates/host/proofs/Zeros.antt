@@ -7,7 +7,7 @@ use mathlib.Core.Path.{◌≡◌, refl, sym, ap, ◌∙◌}
 use mathlib.Core.Bool.{Bool, true, false}
 use mathlib.Core.Logic.{⊎_elim}
 use mathlib.Core.List.{List, []}
-use mathlib.Core.Option.{Option, some, none}
+use Rattle.std.specs.Prelude.{Option, Some, None}
 use Prim.Native.Nat.{ℕ, ◌<◌, ◌≤◌}
 use native.Mathlib.Omega.{arith}
 use lib.Dec.{leb}
@@ -16,9 +16,9 @@ use Rattle.lists.proofs.Tests.{tested}
 use Rattle.rule.specs.declared.Settings.{Settings}
 use Rattle.rule.specs.Rule.{is_good, top}
 use Rattle.rule.specs.Samples.{next_hit}
-use Rattle.rule.specs.Refusals.{Paper, answered, unless, bad_settings, bad_range, bad_level, not_one}
+use Rattle.rule.specs.Refusals.{Paper, answered, unless, bad_settings, bad_range, bad_level, not_one, hits}
 use Rattle.find.specs.declared.Walker.{Walker}
-use Rattle.find.specs.Finding.{is_cell, hits, next_on}
+use Rattle.find.specs.Finding.{is_cell, next_on}
 use Rattle.find.specs.Walking.{is_walker, step_on, moved, after_step}
 use Rattle.find.proofs.Checks.{within_cell}
 use Rattle.find.proofs.Hits.{hit-within}
@@ -32,8 +32,8 @@ abbrev answer : Option ℕ → Paper
 answer o = answered (hits o)
 
 no_zero : (s : Settings) (level lo hi : ℕ) → 1 ≤ lo → (o : Option ℕ) → next_hit s level lo hi ≡ o → 0 ≡ told_value (answer o) → answer o ≡ answered []
-no_zero s level lo hi one none e z = refl
-no_zero s level lo hi one (some x) e z = absurd (omega (arith, one, z, (hit-within s level lo hi x (ap answer (sym e))).0))
+no_zero s level lo hi one None e z = refl
+no_zero s level lo hi one (Some x) e z = absurd (omega (arith, one, z, (hit-within s level lo hi x (ap answer (sym e))).0))
 
 -- a call whose number is 0 has passed its test
 passed : (holds : Bool) (number : ℕ) (paper : Paper) → 0 < number → 0 ≡ told_number (unless holds number paper)

@@ -1,12 +1,11 @@
 -- What each call of the boundary promises: numbers, and the final contents of the rows and bytes lent. Assumes nothing: these are definitions.
 use Rattle.std.specs.Prelude.{ℕ, ◌≡◌, List, length}
 use Rattle.rule.specs.declared.Settings.{Settings}
-use Rattle.rule.specs.declared.answers.Taken.{Taken}
-use Rattle.rule.specs.Refusals.{Paper, of_taken}
+use Rattle.rule.specs.Refusals.{Paper}
 use Rattle.find.specs.declared.Walker.{Walker}
 use Rattle.find.specs.Walking.{walker_at, start_on, started, step_on, after_step}
 use Rattle.sketch.specs.declared.Sketch.{Sketch}
-use Rattle.sketch.specs.Sketches.{is_sketch, opened, add, merge}
+use Rattle.sketch.specs.Sketches.{opened, add, merge}
 use Rattle.sketch.specs.Calls.{no_sketch, handed, open_on, add_on, merge_on}
 use Rattle.plain.specs.Plain.{plain_add_on}
 use Rattle.row.specs.declared.Stretch.{Stretch}
@@ -14,11 +13,6 @@ use Rattle.row.specs.Stretches.{add_all, row_on}
 use Rattle.layout.specs.Images.{spelled}
 use Rattle.image.specs.Calls.{write_on, room_after, read_on}
 use Rattle.crossing.specs.Crossing.{settings_from, sketch_row, sketch_in, walker_row, told_number, Crosses}
-use Rattle.host.specs.declared.stretches.Asked.{Asked}
-
--- whether a row is a sketch's, and its settings
-abbrev pub asked_of : List ℕ → Asked
-asked_of row = record { known = is_sketch (sketch_in row); settings = (sketch_in row).settings }
 
 -- the paper's number, and the row of the sketch handed back
 pub record Gives (paper : Paper) (next old : Sketch) (r : ℕ) (after : List ℕ) : Type 0 where
@@ -45,11 +39,6 @@ pub record AddsRow (before : List ℕ) (ts : List Stretch) (r place : ℕ) (afte
 -- what merging promises, on the row lent and the other
 abbrev pub Merges : List ℕ → List ℕ → ℕ → List ℕ → Type 0
 Merges before other r after = Gives (merge_on (sketch_in before) (sketch_in other)) (merge (sketch_in before) (sketch_in other)) (sketch_in before) r after
-
--- an image's answer, and the row of the sketch that it spells
-pub record Fills (bytes : List ℕ) (r : Taken) (after : List ℕ) : Type 0 where
-  pub answer : of_taken r ≡ read_on bytes
-  pub row : after ≡ sketch_row (handed (read_on bytes) (spelled bytes) no_sketch)
 
 -- what reading promises
 pub record ReadsIn (bytes : List ℕ) (r block : ℕ) (after : List ℕ) : Type 0 where

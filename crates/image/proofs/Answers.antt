@@ -3,14 +3,14 @@
 --     read_length, read_check, read_mark, read_on_lem     reading: the refusals in order
 --     marked-shape, marked-sketch, marked_done     reading, once the checks and the mark are right
 --     shaped-same     bytes with right checks and the mark have the shape just when they are the image of the sketch that they spell
---     length_facts, all_right     what the tests on the length and the checks say
+--     length_facts     what the test on the length says
 --     shape_count, shape_zeros, shape-all, shaped-size     the tests of the shape, as code makes them, and what they say of the length
 --     fault_image, fault_settings     which refusal it is
 --     room_put     the image, put at the start of the room
 -- Assumes nothing.
 use Prim.Native.Nat.{ℕ, ◌+◌, ◌*◌, ◌-◌, ◌%◌, ◌<◌, ◌≤◌}
 use mathlib.Core.Path.{◌≡◌, refl, sym, ap, ◌∙◌}
-use mathlib.Core.Bool.{Bool, true, false, not, cond, ◌&&◌, and-eq-true_iff, and-false}
+use mathlib.Core.Bool.{Bool, true, false, cond, ◌&&◌, and-eq-true_iff, and-false}
 use mathlib.Core.List.{List, [], ◌∷◌, ◌++◌}
 use native.Mathlib.Omega.{arith}
 use Prim.{tt}
@@ -20,43 +20,43 @@ use lib.Seq.{take_all, length-take-le}
 use borrow.Author.Tests.{leb-true, eqb-true, eq-eqb, ne_eqb, le-leb, lt-leb, lt-ltb, le-ltb}
 use Rattle.lists.specs.Lists.{same}
 use Rattle.lists.specs.Rows.{placed, all_zero}
-use Rattle.lists.proofs.Searches.{least_to}
 use Rattle.lists.proofs.Tests.{same_test}
 use Rattle.lists.proofs.Same.{same_true, same_self}
-use Rattle.rule.specs.declared.answers.Written.{Written}
-use Rattle.rule.specs.declared.answers.Taken.TheVariants.{Done}
+use Rattle.std.specs.Prelude.{Result, Ok, Err}
+use Rattle.rule.specs.declared.refusals.Refusal.{Refusal}
+use Rattle.rule.specs.declared.refusals.Refusal.TheVariants.{NotOne, NoRoom}
+use Rattle.rule.specs.declared.refusals.ReadError.{ReadError}
+use Rattle.rule.specs.declared.refusals.ReadError.TheVariants.{Check, Image}
 use Rattle.rule.specs.Rule.{is_good}
-use Rattle.rule.specs.Refusals.{Paper, answered, refused, unless, bad_settings, bad_image, of_written}
+use Rattle.rule.specs.Refusals.{Paper, answered, refused, unless, bad_settings, bad_image, of_written, of_taken}
 use Rattle.rule.proofs.Facts.{facts_good}
-use Rattle.rule.specs.declared.answers.Written.TheVariants as written
 use Rattle.block.specs.Little.{number_at}
-use Rattle.block.specs.Sums.{block_good}
 use Rattle.sketch.specs.declared.Sketch.{Sketch}
 use Rattle.sketch.specs.Sketches.{sketch_at, is_sketch}
 use Rattle.sketch.proofs.Facts.{sketch_facts}
-use Rattle.image.specs.declared.Header.{Header}
+use Rattle.sketch.specs.declared.Changed.{Changed}
 use Rattle.layout.specs.Images.{mark, fields_end, blocks_for, image_with, image_of, said_settings, said_level, said_count, all_cells, spelled}
-use Rattle.layout.specs.Shapes.{Blocks, span, block_at, blocks_in, first_wrong, blocks_shaped, shaped}
+use Rattle.layout.specs.Shapes.{Blocks, span, blocks_in, first_wrong, blocks_shaped, shaped}
 use Rattle.image.specs.Calls.{write_on, room_after, Writes, right_length, marked, Checked}
-use Rattle.image.specs.Calls.{is_image, read_marked, read_on, refused_header, fault_in, loaded_with, HandsOver, Reads}
+use Rattle.image.specs.Calls.{is_image, read_marked, read_on, fault_in, loaded_with, HandsOver, Reads}
 use Rattle.layout.proofs.Spelling.{spelled-image, shaped_back, shaped-made, mark-bytes}
 
 module _ (k : Sketch) (room : List ℕ) where
-  writes : (p : Paper) (r : Written) (after : List ℕ) → write_on k (length room) ≡ p → of_written r ≡ p → after ≡ room_after p k room → Writes k room r after
+  writes : (p : Paper) (r : Result ℕ Refusal) (after : List ℕ) → write_on k (length room) ≡ p → of_written r ≡ p → after ≡ room_after p k room → Writes k room r after
   writes p r after e f g = record { answer = f ∙ sym e; contents = g ∙ ap (λ q. room_after q k room) (sym e) }
 
-  pub write_not : is_sketch k ≡ false → Writes k room (written.Refused 4) room
+  pub write_not : is_sketch k ≡ false → Writes k room (Err NotOne) room
   unfolding write_on
-  write_not e = writes (refused 4 0) (written.Refused 4) room (rw e) refl refl
+  write_not e = writes (refused 4 0) (Err NotOne) room (rw e) refl refl
 
-  pub write_short : is_sketch k ≡ true → length room < length (image_of k) → Writes k room (written.Refused 6) room
+  pub write_short : is_sketch k ≡ true → length room < length (image_of k) → Writes k room (Err NoRoom) room
   unfolding write_on
-  write_short e h = writes (refused 6 0) (written.Refused 6) room (rw (e, lt-leb (length (image_of k)) (length room) h)) refl refl
+  write_short e h = writes (refused 6 0) (Err NoRoom) room (rw (e, lt-leb (length (image_of k)) (length room) h)) refl refl
 
   pub write_done : (n : ℕ) (after : List ℕ) → is_sketch k ≡ true → n ≡ length (image_of k) → n ≤ length room → after ≡ placed room 0 (image_of k)
-      → Writes k room (written.Length n) after
+      → Writes k room (Ok n) after
   unfolding write_on
-  write_done n after e l h f = writes (answered (n ∷ [])) (written.Length n) after (rw (e, ← l, le-leb n (length room) h)) refl f
+  write_done n after e l h f = writes (answered (n ∷ [])) (Ok n) after (rw (e, ← l, le-leb n (length room) h)) refl f
 
 -- the right lengths
 pub length_facts : (s : List ℕ) → right_length (length s) ≡ true → Blocks s
@@ -70,29 +70,29 @@ length_facts s e =
     record { some = omega arith; few = most; whole = omega arith }
 
 -- a refusal, and a row of zeros
-module _ (p : Paper) (s : List ℕ) (h : Header) (row : List ℕ) (zeros : row ≡ replicate 504 0) where
-  hands : (number place : ℕ) → p ≡ refused number place → h ≡ refused_header number place → HandsOver p s (loaded_with h row)
+module _ (p : Paper) (s : List ℕ) (row : List ℕ) (zeros : row ≡ replicate 504 0) where
+  hands : (error : ReadError) → of_taken (Err error) ≡ p → HandsOver p s (loaded_with (Err error) row)
   unfolding sketch_at
-  hands number place e q = rw (e, q, zeros) (record { answer = refl; sketch = refl })
+  hands error e = rw (← e, zeros) (record { answer = refl; sketch = refl })
 
-module _ (s : List ℕ) (h : Header) (row : List ℕ) (right : right_length (length s) ≡ true) (good : blocks_in s ≤ first_wrong s) (e : marked s ≡ true) where
-  pub read_on_lem : HandsOver (read_marked s) s (loaded_with h row) → Reads s (loaded_with h row)
+module _ (s : List ℕ) (right : right_length (length s) ≡ true) (good : first_wrong s ≡ blocks_in s) (e : marked s ≡ true) where
+  pub read_on_lem : (r : Changed ReadError) → HandsOver (read_marked s) s r → Reads s r
   unfolding read_on
-  read_on_lem q = rw (right, le-ltb (first_wrong s) (blocks_in s) good, e) q
+  read_on_lem r q = rw (right, le-ltb (first_wrong s) (blocks_in s) (omega arith), e) q
 
-module _ (s : List ℕ) (h : Header) (row : List ℕ) (zeros : row ≡ replicate 504 0) where
-  pub read_length : right_length (length s) ≡ false → h ≡ refused_header 8 0 → Reads s (loaded_with h row)
+module _ (s : List ℕ) (row : List ℕ) (zeros : row ≡ replicate 504 0) where
+  pub read_length : right_length (length s) ≡ false → Reads s (loaded_with (Err Image) row)
   unfolding read_on
-  read_length e q = hands (read_on s) s h row zeros 8 0 (rw e) q
+  read_length e = hands (read_on s) s row zeros Image (rw e)
 
   module _ (right : right_length (length s) ≡ true) where
-    pub read_check : (i : ℕ) → i ≡ first_wrong s → i < blocks_in s → h ≡ refused_header 7 i → Reads s (loaded_with h row)
+    pub read_check : (i : ℕ) → i ≡ first_wrong s → i < blocks_in s → Reads s (loaded_with (Err (Check i)) row)
     unfolding read_on
-    read_check i e l q = hands (read_on s) s h row zeros 7 i (rw (right, ← e, lt-ltb i (blocks_in s) l)) q
+    read_check i e l = hands (read_on s) s row zeros (Check i) (rw (right, ← e, lt-ltb i (blocks_in s) l))
 
-    pub read_mark : blocks_in s ≤ first_wrong s → marked s ≡ false → h ≡ refused_header 8 0 → Reads s (loaded_with h row)
+    pub read_mark : first_wrong s ≡ blocks_in s → marked s ≡ false → Reads s (loaded_with (Err Image) row)
     unfolding read_on
-    read_mark good e q = hands (read_on s) s h row zeros 8 0 (rw (right, le-ltb (first_wrong s) (blocks_in s) good, e)) q
+    read_mark good e = hands (read_on s) s row zeros Image (rw (right, le-ltb (first_wrong s) (blocks_in s) (omega arith), e))
 
 -- with the mark, and nothing after the fields: they are the image of the sketch that they spell
 pub shaped-same : (s : List ℕ) → Checked s → shaped fields_end s ≡ same s (image_of (spelled s))
@@ -104,11 +104,6 @@ shaped-same s c =
     same_test _ _
     (λ e. ap (same s) (sym (shaped_back s c.blocks c.bytes c.right [] (lit≤ tt) refl e ∙ is)) ∙ same_self s)
     (λ e. shaped-made s c.blocks c.bytes c.right [] (lit≤ tt) (same_true s (image_of (spelled s)) e ∙ sym is))
-
--- no check is wrong
-pub all_right : (s : List ℕ) → blocks_in s ≤ first_wrong s → first_wrong s ≡ blocks_in s
-unfolding first_wrong
-all_right s h = let l = least_to (λ i. not (block_good (block_at i s))) (blocks_in s) 0 in omega arith
 
 -- no image: the fault decides
 fault : (s : List ℕ) → is_image s ≡ false → read_marked s ≡ refused (fault_in s) 0
@@ -123,18 +118,18 @@ spelled-good : (s : List ℕ) → is_sketch (spelled s) ≡ true → is_good (sa
 unfolding spelled sketch_at
 spelled-good s e = facts_good (said_settings s) (sketch_facts (spelled s) e).settings
 
-module _ (s : List ℕ) (c : Checked s) (h : Header) (row : List ℕ) (zeros : row ≡ replicate 504 0) (q : h ≡ refused_header (fault_in s) 0) where
-  pub marked-shape : shaped fields_end s ≡ false → HandsOver (read_marked s) s (loaded_with h row)
+module _ (s : List ℕ) (c : Checked s) (row : List ℕ) (zeros : row ≡ replicate 504 0) (error : ReadError) (q : of_taken (Err error) ≡ refused (fault_in s) 0) where
+  pub marked-shape : shaped fields_end s ≡ false → HandsOver (read_marked s) s (loaded_with (Err error) row)
   unfolding is_image
   marked-shape e =
-      hands (read_marked s) s h row zeros _ 0 (fault s (ap (λ t. is_sketch (spelled s) && t) (sym (shaped-same s c) ∙ e) ∙ and-false (is_sketch (spelled s)))) q
+      hands (read_marked s) s row zeros error (q ∙ sym (fault s (ap (λ t. is_sketch (spelled s) && t) (sym (shaped-same s c) ∙ e) ∙ and-false (is_sketch (spelled s)))))
 
-  pub marked-sketch : (k : Sketch) → k ≡ spelled s → is_sketch k ≡ false → HandsOver (read_marked s) s (loaded_with h row)
+  pub marked-sketch : (k : Sketch) → k ≡ spelled s → is_sketch k ≡ false → HandsOver (read_marked s) s (loaded_with (Err error) row)
   unfolding is_image
-  marked-sketch k f e = hands (read_marked s) s h row zeros _ 0 (fault s (ap (λ t. t && same s (image_of (spelled s))) (ap is_sketch (sym f) ∙ e))) q
+  marked-sketch k f e = hands (read_marked s) s row zeros error (q ∙ sym (fault s (ap (λ t. t && same s (image_of (spelled s))) (ap is_sketch (sym f) ∙ e))))
 
 pub marked_done : (s : List ℕ) → Checked s → (k : Sketch) → k ≡ spelled s → shaped fields_end s ≡ true → is_sketch k ≡ true
-    → HandsOver (read_marked s) s (record { taken = Done; sketch = k })
+    → HandsOver (read_marked s) s (record { answer = Ok record {}; sketch = k })
 unfolding read_marked is_image
 marked_done s c k q e i =
     let g : is_sketch (spelled s) ≡ true = ap is_sketch (sym q) ∙ i in

@@ -17,7 +17,9 @@ use borrow.Author.Tests.{le-leb, eq-eqb, le-ltb}
 use Rattle.lists.specs.Lists.{same}
 use Rattle.lists.specs.Searches.{least}
 use Rattle.lists.proofs.Same.{same_true, same_self}
-use Rattle.rule.specs.declared.answers.Written.{Written}
+use Rattle.std.specs.Prelude.{Result}
+use Rattle.rule.specs.declared.refusals.Refusal.{Refusal}
+use Rattle.rule.specs.declared.refusals.ReadError.{ReadError}
 use Rattle.rule.specs.Rule.{is_good}
 use Rattle.rule.specs.Refusals.{Paper, answered, refused, unless, bad_settings, bad_check, bad_image}
 use Rattle.rule.proofs.Facts.{facts_good}
@@ -29,7 +31,7 @@ use Rattle.block.proofs.Blocks.{sealed-good}
 use Rattle.sketch.specs.declared.Sketch.{Sketch}
 use Rattle.sketch.specs.Sketches.{cells_of, is_sketch, Sound}
 use Rattle.sketch.proofs.Facts.{sketch_facts, facts_sketch}
-use Rattle.image.specs.declared.Loaded.{Loaded}
+use Rattle.sketch.specs.declared.Changed.{Changed}
 use Rattle.layout.specs.Images.{mark, head_with, blocks_for, cell_blocks, image_with, image_of, said_settings, said_level, said_count, all_cells, spelled}
 use Rattle.layout.specs.Shapes.{block_at, blocks_in, first_wrong}
 use Rattle.image.specs.Calls.{right_length, marked, is_image, read_marked, read_on, Writes, Reads}
@@ -150,9 +152,9 @@ write_back s e =
     let h = (and-eq-true_iff (is_sketch (spelled s)) (same s (image_of (spelled s)))).0 c in
     (sym (same_true s (image_of (spelled s)) h.1), h.0)
 
-pub write_tight : (k : Sketch) (room : List ℕ) (q r : Written) (a b : List ℕ) → Writes k room q a → Writes k room r b → (q ≡ r) × (a ≡ b)
+pub write_tight : (k : Sketch) (room : List ℕ) (q r : Result ℕ Refusal) (a b : List ℕ) → Writes k room q a → Writes k room r b → (q ≡ r) × (a ≡ b)
 write_tight k room q r a b f g = (written_one q r (f.answer ∙ sym g.answer), f.contents ∙ sym g.contents)
 
-pub read_tight : (s : List ℕ) (q r : Loaded) → Reads s q → Reads s r → q ≡ r
+pub read_tight : (s : List ℕ) (q r : Changed ReadError) → Reads s q → Reads s r → q ≡ r
 read_tight s q r f g =
-    ap₂ (λ t k. record { taken = t; sketch = k }) (taken-one q.taken r.taken (f.answer ∙ sym g.answer)) (f.sketch ∙ sym g.sketch)
+    ap₂ (λ t k. record { answer = t; sketch = k }) (taken-one q.answer r.answer (f.answer ∙ sym g.answer)) (f.sketch ∙ sym g.sketch)

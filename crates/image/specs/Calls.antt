@@ -1,16 +1,16 @@
 -- What writing and reading answer, and what they leave and hand back. Assumes nothing: these are definitions.
-use Rattle.std.specs.Prelude.{ℕ, ◌%◌, ◌≡◌, Bool, true, cond, ◌&&◌, List, [], ◌∷◌, leb, ltb, eqb, length, take}
+use Rattle.std.specs.Prelude.{ℕ, ◌%◌, ◌≡◌, Bool, true, cond, ◌&&◌, List, [], ◌∷◌, Result, Ok, Err, leb, ltb, eqb, length, take}
 use Rattle.lists.specs.Lists.{same}
 use Rattle.lists.specs.Rows.{placed}
-use Rattle.rule.specs.declared.answers.Written.{Written}
-use Rattle.rule.specs.declared.answers.Taken.TheVariants.{Refused}
+use Rattle.rule.specs.declared.refusals.Refusal.{Refusal}
+use Rattle.rule.specs.declared.refusals.ReadError.{ReadError}
 use Rattle.rule.specs.Rule.{is_good, no_settings}
 use Rattle.rule.specs.Refusals.{Paper, answered, refused, unless, bad_settings, not_one, no_room, bad_check, bad_image, of_written, of_taken}
 use Rattle.block.specs.Little.{Bytes, bytes_of}
 use Rattle.sketch.specs.declared.Sketch.{Sketch}
 use Rattle.sketch.specs.Sketches.{held, is_sketch}
 use Rattle.sketch.specs.Calls.{no_sketch, handed}
-use Rattle.image.specs.declared.Loaded.{Loaded}
+use Rattle.sketch.specs.declared.Changed.{Changed}
 use Rattle.image.specs.declared.Header.{Header}
 use Rattle.layout.specs.Images.{mark, image_of, said_settings, spelled}
 use Rattle.layout.specs.Shapes.{Blocks, blocks_in, first_wrong}
@@ -25,7 +25,7 @@ room_after (answered values) k room = placed room 0 (image_of k)
 room_after (refused number place) k room = room
 
 -- what writing promises
-pub record Writes (k : Sketch) (room : List ℕ) (r : Written) (after : List ℕ) : Type 0 where
+pub record Writes (k : Sketch) (room : List ℕ) (r : Result ℕ Refusal) (after : List ℕ) : Type 0 where
   pub answer : of_written r ≡ write_on k (length room)
   pub contents : after ≡ room_after (write_on k (length room)) k room
 
@@ -58,23 +58,20 @@ read_on s =
     unless (right_length (length s)) bad_image
     (cond (ltb (first_wrong s) (blocks_in s)) (refused bad_check (first_wrong s)) (unless (marked s) bad_image (read_marked s)))
 
--- a refusal, with zeros for the settings, the level and the number of cells
-abbrev pub refused_header : ℕ → ℕ → Header
-refused_header number place = record { taken = Refused number place; settings = no_settings; level = 0; count = 0 }
-
--- an answer, and the sketch of the header's parts and a row of cells
-abbrev pub loaded_with : Header → List ℕ → Loaded
-loaded_with h cells = record { taken = h.taken; sketch = held h.settings h.level h.count cells }
+-- an answer, and the sketch of the header's parts and a row of cells, with zeros for the header of a refusal
+abbrev pub loaded_with : Result Header ReadError → List ℕ → Changed ReadError
+loaded_with (Ok h) cells = record { answer = Ok record {}; sketch = held h.settings h.level h.count cells }
+loaded_with (Err error) cells = record { answer = Err error; sketch = held no_settings 0 0 cells }
 
 -- the number of the refusal of bytes with right checks and mark: 1 comes before 8
 unfoldable pub fault_in : List ℕ → ℕ
 fault_in s = cond (is_good (said_settings s)) bad_image bad_settings
 
 -- an answer, and the sketch beside it: the one that the bytes spell, or the all-zero one with a refusal
-pub record HandsOver (paper : Paper) (s : List ℕ) (r : Loaded) : Type 0 where
-  pub answer : of_taken r.taken ≡ paper
+pub record HandsOver (paper : Paper) (s : List ℕ) (r : Changed ReadError) : Type 0 where
+  pub answer : of_taken r.answer ≡ paper
   pub sketch : r.sketch ≡ handed paper (spelled s) no_sketch
 
 -- what reading promises
-abbrev pub Reads : List ℕ → Loaded → Type 0
+abbrev pub Reads : List ℕ → Changed ReadError → Type 0
 Reads s r = HandsOver (read_on s) s r

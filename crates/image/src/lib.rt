@@ -8,54 +8,45 @@ ghost use Rattle.image.specs.Calls.{Writes, Reads, loaded_with};
 use layout::writer::put_image;
 use layout::{BLOCK, blocks_for};
 use rule::Settings;
-use rule::answers::{Taken, Written};
-use rule::refusals::{BAD_CHECK, BAD_IMAGE, NO_ROOM, NOT_ONE};
-use sketch::{PLACES, Sketch};
+use rule::refusals::{ReadError, Refusal};
+use sketch::{Changed, PLACES, Sketch};
 
 mod reader;
 
-// What the reader answers, and the sketch handed back beside it.
-#[derive(Clone, Copy)]
-pub struct Loaded {
-    pub taken: Taken,
-    pub sketch: Sketch,
-}
-
-// The same but the cells, which go into a row that the caller lends.
+// A sketch but for its cells, which go into a row that the caller lends.
 #[derive(Clone, Copy)]
 pub struct Header {
-    pub taken: Taken,
     pub settings: Settings,
     pub level: u32,
     pub count: u32,
 }
 
-// Writes the image at the start of the room, and leaves what follows it untouched. The sketch
-// is lent by its parts: its row isn't copied.
+// Writes the image at the start of the room, and leaves what follows it untouched: answers the
+// image's length. The sketch is lent by its parts: its row isn't copied.
 pub fn write_from(
     settings: Settings,
     level: u32,
     count: u32,
     cells: &[u32],
     room: &mut [u8],
-) -> Written
+) -> Result<usize, Refusal>
     requires { length cells.now ≡ 504 }
     ensures { Writes (held settings level count cells.now) room.old result room.new }
 {
     if !sketch::is_sketch(settings, level, count, cells) {
-        return Written::Refused(NOT_ONE);
+        return Err(Refusal::NotOne);
     }
     let n = count as usize;
     let len = BLOCK * (1 + blocks_for(n));
     if room.len() < len {
-        return Written::Refused(NO_ROOM);
+        return Err(Refusal::NoRoom);
     }
     put_image(&mut room[0..len], settings, level, &cells[..n]);
-    Written::Length(len)
+    Ok(len)
 }
 
 // The same of a sketch by value.
-pub fn write(sketch: Sketch, room: &mut [u8]) -> Written
+pub fn write(sketch: Sketch, room: &mut [u8]) -> Result<usize, Refusal>
     ensures { Writes sketch room.old result room.new }
 {
     write_from(
@@ -69,37 +60,42 @@ pub fn write(sketch: Sketch, room: &mut [u8]) -> Written
 
 // Reads an image, and leaves the sketch's cells in the row lent, or zeros with a refusal. It tests
 // the bytes where they stand, and never writes the image anew to compare.
-pub fn read_into(bytes: &[u8], cells: &mut [u32]) -> Header
+pub fn read_into(bytes: &[u8], cells: &mut [u32]) -> Result<Header, ReadError>
     requires { length cells.old ≡ 504 }
     ensures { Reads bytes.now (loaded_with result cells.new) }
 {
-    reader::clear_row(cells);
+    cells.fill(0);
     if !reader::right_length(bytes.len()) {
-        return reader::refuse(BAD_IMAGE, 0);
+        return Err(ReadError::Image);
     }
-    let wrong = reader::first_wrong(bytes);
-    if wrong < bytes.len() / BLOCK {
-        return reader::refuse(BAD_CHECK, wrong as u32);
+    if let Some(wrong) = reader::first_wrong(bytes) {
+        let block = wrong as u32;
+        return Err(ReadError::Check { block });
     }
     if !reader::has_mark(bytes) {
-        return reader::refuse(BAD_IMAGE, 0);
+        return Err(ReadError::Image);
     }
     reader::read_marked(bytes, cells)
 }
 
-// The same, with the sketch by value.
-pub fn read(bytes: &[u8]) -> Loaded
+// The same, with the sketch by value: all zeros with a refusal.
+pub fn read(bytes: &[u8]) -> Changed<ReadError>
     ensures { Reads bytes.now result }
 {
     let mut cells = [0u32; PLACES];
-    let header = read_into(bytes, &mut cells);
-    let taken = header.taken;
-    let settings = header.settings;
-    let sketch = Sketch {
-        settings,
-        level: header.level,
-        count: header.count,
-        cells,
-    };
-    Loaded { taken, sketch }
+    match read_into(bytes, &mut cells) {
+        Ok(header) => Changed {
+            answer: Ok(()),
+            sketch: Sketch {
+                settings: header.settings,
+                level: header.level,
+                count: header.count,
+                cells,
+            },
+        },
+        Err(error) => Changed {
+            answer: Err(error),
+            sketch: sketch::no_sketch(),
+        },
+    }
 }

@@ -2,26 +2,19 @@
 // out by tests/images.py, which shares nothing with the library.
 #![tactic(auto)]
 
-use rule::answers::Written;
 use std::io;
-
-fn wide(x: u8) -> u64 {
-    x as u64
-}
 
 fn print_line(rt: &impl Print, bytes: &[u8]) -> io::Result<()> {
     for x in bytes {
-        print!(rt; "{:02x}", wide(*x))?;
+        print!(rt; "{x:02x}")?;
     }
     println!(rt)
 }
 
 // Lines of 32 bytes each.
 fn print_lines(rt: &impl Print, bytes: &[u8]) -> io::Result<()> {
-    let mut rest = bytes;
-    while 32 <= rest.len() {
-        print_line(rt, &rest[..32])?;
-        rest = &rest[32..];
+    for line in bytes.chunks_exact(32) {
+        print_line(rt, line)?;
     }
     Ok(())
 }
@@ -29,15 +22,8 @@ fn print_lines(rt: &impl Print, bytes: &[u8]) -> io::Result<()> {
 fn print_image(rt: &impl Print, last: u32) -> io::Result<()> {
     let mut room = [0u8; 2560];
     println!(rt; "cells seen: {last}")?;
-    match image::write(seen::up_to(last), &mut room) {
-        Written::Length(n) => {
-            if n <= 2560 {
-                print_lines(rt, &room[..n])?;
-            }
-        }
-        Written::Refused(_) => {}
-    }
-    Ok(())
+    let n = image::write(seen::up_to(last), &mut room).unwrap_or(0);
+    print_lines(rt, room.get(..n).unwrap_or(b""))
 }
 
 fn main(rt: HostRuntime) -> io::Result<()> {

@@ -1,6 +1,6 @@
 -- The marked kitchen tests (RULES: Kitchen tests), and a few of ours after them: inputs and expected values as data, and what
 -- each row says. Assumes nothing: these are definitions.
-use Rattle.std.specs.Prelude.{ℕ, ◌*◌, ◌≡◌, Bool, true, false, ◌&&◌, not, List, [], ◌∷◌, ◌++◌, eqb, replicate}
+use Rattle.std.specs.Prelude.{ℕ, ◌*◌, ◌≡◌, Bool, true, false, ◌&&◌, not, List, [], ◌∷◌, ◌++◌, map, eqb, replicate}
 use Rattle.std.specs.Float.{binary64}
 use Rattle.std.specs.Float.Ieee.{to_bits}
 use Rattle.lists.specs.Lists.{filter, range, same}
@@ -35,10 +35,6 @@ pub data Row : Type 0 where
   checked : List ℕ → ℕ → ℕ → Row
   divided : ℕ → ℕ → ℕ → Row
 
-abbrev pub each : (ℕ → ℕ) → List ℕ → List ℕ
-each f [] = []
-each f (x ∷ xs) = f x ∷ each f xs
-
 -- the sketch after opening and adding lo..hi
 abbrev pub added : Settings → ℕ → ℕ → Sketch
 added s lo hi = add (opened s) lo hi
@@ -50,9 +46,9 @@ divides k m = eqb (upper k) (m * lower k)
 -- what a row says
 abbrev pub Says : Row → Type 0
 -- the hashes of 1..n
-Says (hashes s hs) = each (hash s) (range 1 s.n) ≡ hs
+Says (hashes s hs) = map (hash s) (range 1 s.n) ≡ hs
 -- the regions from level 0 to the top
-Says (regions s rs t) = (each (region s) (range 0 (top s)) ≡ rs) × (top s ≡ t)
+Says (regions s rs t) = (map (region s) (range 0 (top s)) ≡ rs) × (top s ≡ t)
 -- the cells of 1..n that pass at a level
 Says (passed s level xs) = filter (passes s level) (range 1 s.n) ≡ xs
 -- the range count at a level over lo..hi
@@ -128,8 +124,8 @@ same_paper (refused n b) (answered ys) = false
 same_paper (refused n b) (refused m c) = eqb n m && eqb b c
 
 abbrev pub tests : Row → List Bool
-tests (hashes s hs) = same (each (hash s) (range 1 s.n)) hs ∷ []
-tests (regions s rs t) = same (each (region s) (range 0 (top s))) rs ∷ eqb (top s) t ∷ []
+tests (hashes s hs) = same (map (hash s) (range 1 s.n)) hs ∷ []
+tests (regions s rs t) = same (map (region s) (range 0 (top s))) rs ∷ eqb (top s) t ∷ []
 tests (passed s level xs) = same (filter (passes s level) (range 1 s.n)) xs ∷ []
 tests (counted s level lo hi v) = same_paper (count_on s level lo hi) (answered (v ∷ [])) ∷ []
 tests (opening s paper) = same_paper (open_on s) paper ∷ []

@@ -4,7 +4,7 @@
 
 use find::{Started, Walker, count};
 use rule::Settings;
-use rule::answers::{Answer, Counted, Found, Written};
+use rule::refusals::Refusal;
 use sketch::Sketch;
 use std::io;
 
@@ -18,50 +18,21 @@ fn q(capacity: u32) -> Settings {
     }
 }
 
-fn put(rt: &impl Print, what: &str, number: u32) -> io::Result<()> {
-    print!(rt; "{what}{number}")
-}
-
-fn say(rt: &impl Print, what: &str, number: u32) -> io::Result<()> {
-    println!(rt; "{what}{number}")
-}
-
 // The number of a refusal, 0 where there is none.
-fn done(answer: Answer) -> u32 {
+fn number<T: Drop>(answer: Result<T, Refusal>) -> u32 {
     match answer {
-        Answer::Done => 0,
-        Answer::Refused(number) => number,
-    }
-}
-
-fn counted(answer: Counted) -> u32 {
-    match answer {
-        Counted::Count(_) => 0,
-        Counted::Refused(number) => number,
-    }
-}
-
-fn found(answer: Found) -> u32 {
-    match answer {
-        Found::Cell(_) => 0,
-        Found::Nothing => 0,
-        Found::Refused(number) => number,
+        Ok(_) => 0,
+        Err(refusal) => u32::from(refusal),
     }
 }
 
 fn opened(capacity: u32) -> u32 {
-    let r = Sketch::open(q(capacity));
-    let answer = r.answer;
-    done(answer)
+    number(Sketch::open(q(capacity)).answer)
 }
 
 // A room of so many bytes for an empty sketch.
 fn written(room: &mut [u8]) -> u32 {
-    let r = Sketch::open(q(16));
-    match image::write(r.sketch, room) {
-        Written::Length(_) => 0,
-        Written::Refused(number) => number,
-    }
+    number(image::write(Sketch::open(q(16)).sketch, room))
 }
 
 // The walker over 1..10 at a level.
@@ -69,29 +40,16 @@ fn over_all(level: u32) -> Started {
     Walker::open(q(16), level, 1, 10)
 }
 
-fn started(level: u32) -> u32 {
-    let r = over_all(level);
-    let answer = r.answer;
-    done(answer)
-}
-
 // One step of a walker that is lent: the cell, and the position after it.
 fn step(rt: &impl Print, walker: Walker) -> io::Result<Walker> {
     let m = lent::moved_on(walker);
-    let answer = m.found;
-    match answer {
-        Found::Cell(x) => put(rt, "  cell ", x)?,
-        Found::Nothing => print!(rt; "  none")?,
-        Found::Refused(number) => put(rt, "  refused ", number)?,
+    match m.found {
+        Ok(Some(x)) => print!(rt; "  cell {x}")?,
+        Ok(None) => print!(rt; "  none")?,
+        Err(refusal) => print!(rt; "  refused {}", u32::from(refusal))?,
     }
-    let after = m.walker;
-    say(rt, ", position ", after.at)?;
-    Ok(after)
-}
-
-fn same(v: Walker, w: Walker) -> bool {
-    sketch::order::same_settings(v.settings, w.settings)
-        & ((v.level == w.level) & ((v.at == w.at) & (v.hi == w.hi)))
+    println!(rt; ", position {}", m.walker.at)?;
+    Ok(m.walker)
 }
 
 // A walker that nothing opened, and what a step leaves of it.
@@ -102,14 +60,14 @@ fn forged(rt: &impl Print, at: u32, hi: u32) -> io::Result<()> {
         at,
         hi,
     };
-    put(rt, "forged walker under Q, position ", at)?;
-    say(rt, ", hi ", hi)?;
+    println!(rt; "forged walker under Q, position {at}, hi {hi}")?;
     let after = step(rt, walker)?;
-    if same(walker, after) {
-        println!(rt; "  unchanged")
+    let what = if walker == after {
+        "unchanged"
     } else {
-        println!(rt; "  changed")
-    }
+        "changed"
+    };
+    println!(rt; "  {what}")
 }
 
 fn walk(rt: &impl Print, mut walker: Walker, steps: u32) -> io::Result<()> {
@@ -120,39 +78,31 @@ fn walk(rt: &impl Print, mut walker: Walker, steps: u32) -> io::Result<()> {
 }
 
 fn main(rt: HostRuntime) -> io::Result<()> {
-    say(
-        &rt,
-        "level 7 under Q, count: ",
-        counted(count(q(16), 7, 1, 10)),
+    println!(&rt;
+        "level 7 under Q, count: {}",
+        number(count(q(16), 7, 1, 10))
     )?;
-    say(
-        &rt,
-        "level 7 under Q, next hit: ",
-        found(find::next_hit(q(16), 7, 1)),
+    println!(&rt;
+        "level 7 under Q, next hit: {}",
+        number(find::next_hit(q(16), 7, 1))
     )?;
-    say(&rt, "level 7 under Q, walker: ", started(7))?;
-    say(
-        &rt,
-        "level 6 under Q, count: ",
-        counted(count(q(16), 6, 1, 10)),
+    println!(&rt; "level 7 under Q, walker: {}", number(over_all(7).answer))?;
+    println!(&rt;
+        "level 6 under Q, count: {}",
+        number(count(q(16), 6, 1, 10))
     )?;
-    say(&rt, "capacity 504: ", opened(504))?;
-    say(&rt, "capacity 505: ", opened(505))?;
-    let mut short = [0u8; 511];
-    say(
-        &rt,
-        "room of 511 for an empty sketch: ",
-        written(&mut short),
+    println!(&rt; "capacity 504: {}", opened(504))?;
+    println!(&rt; "capacity 505: {}", opened(505))?;
+    println!(&rt;
+        "room of 511 for an empty sketch: {}",
+        written(&mut [0; 511])
     )?;
-    let mut enough = [0u8; 512];
-    say(
-        &rt,
-        "room of 512 for an empty sketch: ",
-        written(&mut enough),
+    println!(&rt;
+        "room of 512 for an empty sketch: {}",
+        written(&mut [0; 512])
     )?;
     println!(&rt; "walker over 1..10 at level 1 under Q:")?;
-    let r = over_all(1);
-    walk(&rt, r.walker, 6)?;
+    walk(&rt, over_all(1).walker, 6)?;
     forged(&rt, 0, 10)?;
     forged(&rt, 1, 11)
 }

@@ -1,6 +1,6 @@
 -- Numbers in bytes: what is written is read, and what is read is written.
 --     there, field    the number at a place, and the bytes after it
---     four_words, number-words     a number of four bytes is two words
+--     four_bytes, number_four     a number of four bytes, byte by byte
 --     cell_bytes-length, cell_bytes-small, cell_bytes_more      cells of four bytes each
 --     numbers-length, numbers_more      numbers read one after the other
 --     numbers-bytes, bytes-numbers      the one undoes the other
@@ -15,7 +15,7 @@ use lib.Dec.{lit<}
 use lib.ListN.{length, take, drop, get_or, length-append, length-drop}
 use lib.Seq.{take_at, drop_at, take-add, drop-drop, length-take-le, get_or-drop}
 use Rattle.block.specs.Little.{Bytes, bytes_of, number_of, number_at}
-use Rattle.block.proofs.Numbers.{bytes-length, bytes_small, number-bytes, bytes-number, append-small, take-small, drop-small, number_two}
+use Rattle.block.proofs.Numbers.{bytes-length, bytes_small, number-bytes, bytes-number, append-small, take-small, drop-small}
 use Rattle.layout.specs.Images.{cell_bytes, numbers_in}
 
 -- the bytes at a place are those of the number there
@@ -28,20 +28,15 @@ there k i s h b =
 pub field : (k r i : ℕ) (s : List ℕ) → i + k ≤ length s → Bytes s → take (k + r) (drop i s) ≡ bytes_of k (number_at k i s) ++ take r (drop (i + k) s)
 field k r i s h b = take-add k r (drop i s) ∙ ap₂ ◌++◌ (there k i s h b) (ap (take r) (drop-drop k i s))
 
-low_byte : (q u : ℕ) → (256 * q + u) % 256 ≡ u % 256
-low_byte q u = omega arith
-
--- a number of four bytes is two words
-pub four_words : (x : ℕ) → bytes_of 2 (x % 65536) ++ bytes_of 2 (x / 65536) ≡ bytes_of 4 x
+-- a number's four bytes
+pub four_bytes : (x : ℕ) → bytes_of 4 x ≡ x % 256 ∷ x / 256 % 256 ∷ x / 65536 % 256 ∷ x / 16777216 % 256 ∷ []
 unfolding bytes_of
-four_words x =
-    let a : x % 65536 % 256 ≡ x % 256 = omega arith in
-    let y : x / 256 ≡ 256 * (x / 65536) + x % 65536 / 256 = omega arith in
-    let b : x % 65536 / 256 % 256 ≡ x / 256 % 256 = sym (low_byte (x / 65536) (x % 65536 / 256)) ∙ ap (λ n. n % 256) (sym y) in
-    let c : x / 65536 ≡ x / 256 / 256 = omega arith in
-    rw (a, b, c)
+four_bytes x =
+    let two : x / 256 / 256 ≡ x / 65536 = omega arith in
+    let three : x / 65536 / 256 ≡ x / 16777216 = omega arith in
+    rw (two, three)
 
-four_front : (s : List ℕ) → number_of (take 4 s) ≡ get_or s 0 0 + 256 * get_or s 1 0 + 65536 * (get_or s 2 0 + 256 * get_or s 3 0)
+four_front : (s : List ℕ) → number_of (take 4 s) ≡ get_or s 0 0 + 256 * get_or s 1 0 + 65536 * get_or s 2 0 + 16777216 * get_or s 3 0
 unfolding number_of
 four_front [] = refl
 four_front (x ∷ []) = omega arith
@@ -49,10 +44,9 @@ four_front (x ∷ y ∷ []) = omega arith
 four_front (x ∷ y ∷ z ∷ []) = omega arith
 four_front (x ∷ y ∷ z ∷ w ∷ s) = omega arith
 
-pub number-words : (i : ℕ) (s : List ℕ) → number_at 4 i s ≡ number_at 2 i s + 65536 * number_at 2 (i + 2) s
-number-words i s =
-    let e : i + 2 + 1 ≡ i + 3 = omega arith in
-    rw (number_two i s, number_two (i + 2) s, e, four_front (drop i s)) (simp (get_or-drop, add-zero))
+-- a number by its four bytes
+pub number_four : (i : ℕ) (s : List ℕ) → number_at 4 i s ≡ get_or s i 0 + 256 * get_or s (i + 1) 0 + 65536 * get_or s (i + 2) 0 + 16777216 * get_or s (i + 3) 0
+number_four i s = simp (four_front, get_or-drop, add-zero)
 
 pub cell_bytes-length : (xs : List ℕ) → length (cell_bytes xs) ≡ 4 * length xs
 unfolding cell_bytes

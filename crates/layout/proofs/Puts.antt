@@ -1,29 +1,27 @@
 -- Stores one after the other, and the content of the block that they leave.
---     word-placed, words_placed    a word, and two words, stored in a row
+--     word-placed, number_over     a word, and a number of four bytes, stored in a row
 --     put_next        a store right after what was stored
 --     put_cell        one cell more
 --     content         the first places of zeros, after a store at their start
 --     fields_filled    the fields of block 0, after their stores
 --     head_filled, body_filled     the content of block 0 and of a cell block, after all stores
---     image_put       block 0 and the cell blocks are the image
 -- Assumes nothing.
 use Prim.Native.Nat.{ℕ, ◌+◌, ◌*◌, ◌-◌, ◌/◌, ◌%◌, ◌<◌, ◌≤◌}
-use mathlib.Core.Path.{◌≡◌, sym, ap, ap₂, ◌∙◌}
-use mathlib.Core.List.{List, [], ◌++◌, append_assoc, append-nil}
+use mathlib.Core.Path.{◌≡◌, sym, ap, ◌∙◌}
+use mathlib.Core.List.{List, [], ◌∷◌, ◌++◌, append_assoc, append-nil}
 use native.Mathlib.Omega.{arith}
-use lib.ListN.{length, take, drop, get_or, replicate, length-append, length-replicate, replicate-append-replicate, drop_of_length-le}
-use lib.Seq.{length-take-le, take_at, drop_at, take-append-add}
+use lib.ListN.{length, take, drop, get_or, replicate, length-append, length-replicate, replicate-append-replicate}
+use lib.Seq.{length-take-le, take_at, drop-drop, take-append-add}
+use borrow.Rule.Slice.PartMut.{put_mid}
 use Rattle.lists.specs.Rows.{pad, placed}
 use Rattle.lists.proofs.Places.{placed_twice, placed-pad}
 use Rattle.lists.proofs.Steps.{take_next}
 use Rattle.rule.specs.declared.Settings.{Settings}
 use Rattle.block.specs.Little.{bytes_of}
-use Rattle.block.specs.Sums.{sealed}
 use Rattle.block.proofs.Numbers.{bytes-length}
-use Rattle.block.proofs.Blocks.{sealed-length}
-use Rattle.layout.specs.Images.{settings_bytes, fields_of, fields_end, head_with, cell_bytes, body_of, blocks_for, cell_blocks, image_with}
-use Rattle.layout.proofs.Fields.{four_words, cell_bytes-length, cell_bytes_more}
-use Rattle.layout.proofs.Bodies.{fields_length, head_length}
+use Rattle.layout.specs.Images.{settings_bytes, fields_of, fields_end, head_with, cell_bytes, body_of}
+use Rattle.layout.proofs.Fields.{four_bytes, cell_bytes-length, cell_bytes_more}
+use Rattle.layout.proofs.Bodies.{fields_length}
 
 pub word-placed : (s : List ℕ) (at x : ℕ) → take at s ++ bytes_of 2 x ++ drop (at + 2) s ≡ placed s at (bytes_of 2 x)
 word-placed s at x = rw (append_assoc, bytes-length)
@@ -32,15 +30,12 @@ pub put_next : (row : List ℕ) {t u : List ℕ} (k at : ℕ) (xs ys : List ℕ)
     → t ≡ placed row k xs → u ≡ placed t at ys → u ≡ placed row k (xs ++ ys)
 put_next row k at xs ys h e f g = rw (g, f, e) (placed_twice row k xs ys h)
 
-pub words_placed : (s : List ℕ) {t u : List ℕ} (at x : ℕ) → at ≤ length s
-    → t ≡ take at s ++ bytes_of 2 (x % 65536) ++ drop (at + 2) s
-    → u ≡ take (at + 2) t ++ bytes_of 2 (x / 65536) ++ drop (at + 2 + 2) t
-    → u ≡ placed s at (bytes_of 4 x)
-words_placed s {t} at x h f g =
-    let low = bytes_of 2 (x % 65536) in
-    let two : at + 2 ≡ at + length low = ap (λ n. at + n) (sym (bytes-length 2 (x % 65536))) in
-    put_next s at (at + 2) low (bytes_of 2 (x / 65536)) h two (f ∙ word-placed s at (x % 65536)) (g ∙ word-placed t (at + 2) (x / 65536))
-    ∙ ap (placed s at) (four_words x)
+-- a number written over four bytes
+pub number_over : (i x : ℕ) (s w : List ℕ) → w ≡ x % 256 ∷ x / 256 % 256 ∷ x / 65536 % 256 ∷ x / 16777216 % 256 ∷ []
+    → put_mid i (i + 4 - i) s w ≡ placed s i (bytes_of 4 x)
+number_over i x s w h =
+    let e : i + 4 - i ≡ 4 = omega arith in
+    rw (h, e, four_bytes, drop-drop)
 
 pub put_cell : (row : List ℕ) {t u : List ℕ} (cells : List ℕ) (j : ℕ) → j < length cells → 4 ≤ length row
     → t ≡ placed row 4 (cell_bytes (take j cells)) → u ≡ placed t (4 + 4 * j) (bytes_of 4 (get_or cells j 0)) → u ≡ placed row 4 (cell_bytes (take (j + 1) cells))
@@ -113,16 +108,3 @@ module _ (n : ℕ) (wide : 508 ≤ n) {z : List ℕ} (cleared : z ≡ replicate 
         let f2 = put_next z 0 2 N M (omega arith) (omega arith) f1 (e2 ∙ word-placed s1 2 (length cells)) in
         let f3 : s3 ≡ placed z 0 X = put_next z 0 4 (N ++ M) (cell_bytes cells) (omega arith) (omega arith) f2 e3 in
         said X (omega arith) f3 ∙ ap (pad 508) (append_assoc N M (cell_bytes cells))
-
--- block 0 and the cell blocks, put in room of their length
-pub image_put : (m : ℕ) (tail : List ℕ) → fields_end + length tail ≤ 508 → (s : Settings) (level : ℕ) (xs room head blocks : List ℕ)
-    → head ≡ sealed (head_with m tail s level (length xs)) → blocks ≡ cell_blocks (blocks_for (length xs)) 1 xs
-    → (n : ℕ) → n ≡ length (head ++ drop 512 room) - 512
-    → take 512 (head ++ drop 512 room) ++ (blocks ++ drop n (drop 512 (head ++ drop 512 room))) ≡ image_with m tail s level xs
-unfolding image_with
-image_put m tail fits s level xs room head blocks h b n l =
-    let size : length head ≡ 512 = ap length h ∙ sealed-length (head_with m tail s level (length xs)) (head_length m s level (length xs) tail fits) in
-    let none : drop n (drop 512 room) ≡ [] = drop_of_length-le (drop 512 room) {i = n} (omega (arith, length-append head (drop 512 room))) in
-    ap₂ (λ a r. a ++ (blocks ++ r)) (take_at head (drop 512 room) 512 size) (ap (drop n) (drop_at head (drop 512 room) 512 size) ∙ none)
-    ∙ ap (λ t. head ++ t) (append-nil blocks)
-    ∙ ap₂ ◌++◌ h b

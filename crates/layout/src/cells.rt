@@ -4,25 +4,25 @@ ghost use Rattle.lists.specs.Rows.{pad};
 ghost use Rattle.block.specs.Little.{Bytes, number_at};
 ghost use Rattle.layout.specs.Images.{blocks_for, numbers_in, cells_in};
 
-use crate::{BLOCK, FULL, smaller};
+use crate::{BLOCK, FULL};
 
 // The number in the four bytes at `at`.
+#[tactic(auto, using(crate::proofs::Fields::number_four))]
 pub fn number_at(s: &[u8], at: usize) -> u32
     requires { at + 4 ≤ length s.now }
     ensures { (result ≡ number_at 4 at s.now) × Bytes s.now }
 {
-    block::word_at(s, at) + 65536 * block::word_at(s, at + 2)
+    u32::from_le_bytes([s[at], s[at + 1], s[at + 2], s[at + 3]])
 }
 
-// Copies the cells of a cell block, as many as the row has places.
+// Copies the cells of a cell block, as many as the row has places: by index, since nothing is known of places that an
+// iterator has lent to be written.
 fn copy_cells(row: &mut [u32], s: &[u8])
     requires { 4 + 4 * length row.old ≤ length s.now }
     ensures { row.new ≡ numbers_in (length row.old) (drop 4 s.now) }
 {
-    let mut j: usize = 0;
-    while j < row.len() {
+    for j in 0..row.len() {
         row[j] = number_at(s, 4 + 4 * j);
-        j = j + 1;
     }
 }
 
@@ -31,14 +31,9 @@ pub fn copy_all(row: &mut [u32], s: &[u8], count: usize)
     requires { (row.old ≡ replicate 504 0) × (length s.now ≡ 512 * blocks_for count) × (count ≤ 504) }
     ensures { row.new ≡ pad 504 (cells_in (blocks_for count) count s.now) }
 {
-    let blocks = s.len() / BLOCK;
-    let mut i: usize = 0;
-    while i < blocks {
-        let start = BLOCK * i;
-        let end = start + BLOCK;
+    for (i, block) in s.chunks_exact(BLOCK).enumerate() {
         let from = FULL * i;
-        let to = smaller(from + FULL, count);
-        copy_cells(&mut row[from..to], &s[start..end]);
-        i = i + 1;
+        let to = (from + FULL).min(count);
+        copy_cells(&mut row[from..to], block);
     }
 }

@@ -1,7 +1,7 @@
 // The layout of an image, for the writer and the reader.
 #![tactic(auto)]
 
-ghost use Rattle.std.specs.Prelude.{◌≡◌, ◌<◌, min};
+ghost use Rattle.std.specs.Prelude.{◌≡◌};
 ghost use Rattle.layout.specs.Images.{blocks_for};
 
 pub mod cells;
@@ -26,14 +26,7 @@ pub const FIELDS_END: usize = 26;
 
 // How many cell blocks so many cells take.
 pub fn blocks_for(count: usize) -> usize
-    requires { count < 4294967296 }
     ensures { result ≡ blocks_for count }
 {
-    (count + (FULL - 1)) / FULL
-}
-
-pub fn smaller(x: usize, y: usize) -> usize
-    ensures { result ≡ min x y }
-{
-    if x < y { x } else { y }
+    count.div_ceil(FULL)
 }

@@ -8,13 +8,14 @@ ghost use Rattle.find.specs.Walking.{Steps};
 ghost use Rattle.lent.specs.Lending.{Lends};
 
 use find::{Stepped, Walker};
-use rule::answers::Found;
+use rule::refusals::Refusal;
 
 // The next passing cell. A step changes nothing but the position, so only that is stored.
-pub fn next(walker: &mut Walker) -> Found
+#[tactic(auto, using(crate::proofs::Lendings::lends_step))]
+pub fn next(walker: &mut Walker) -> Result<Option<u32>, Refusal>
     ensures { Lends walker.old result walker.new }
 {
-    let m = (*walker).step();
+    let m = walker.step();
     walker.at = m.walker.at;
     m.found
 }

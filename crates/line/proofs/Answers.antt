@@ -7,7 +7,7 @@
 use mathlib.Core.Path.{◌≡◌, refl, sym, ap, ◌∙◌}
 use mathlib.Core.Bool.{true, false, ◌&&◌, and-eq-true_iff}
 use mathlib.Core.List.{List, [], ◌∷◌, ◌++◌, append_assoc}
-use mathlib.Core.Option.{some}
+use Rattle.std.specs.Prelude.{Some}
 use Prim.Native.Nat.{ℕ, zero, suc, ◌*◌, ◌^◌, ◌≤◌, ◌<◌}
 use native.Mathlib.Omega.{arith}
 use lib.Dec.{leb, eqb}
@@ -97,7 +97,7 @@ word_ends (d ∷ w) xs e =
     let r = word_ends w xs h.1 in
     (rw (n, r.0), rw (n, r.1))
 
-pub spaced_back : (xs : List ℕ) → Small xs → numbers_after (spaced xs) ≡ some xs
+pub spaced_back : (xs : List ℕ) → Small xs → numbers_after (spaced xs) ≡ Some xs
 unfolding decimal
 spaced_back [] s = refl
 spaced_back (x ∷ xs) s =
@@ -108,7 +108,7 @@ spaced-short : (xs : List ℕ) → Small xs → length (spaced xs) ≤ 11 * leng
 spaced-short [] s = omega arith
 spaced-short (x ∷ xs) s = omega (arith, length-append (decimal x) (spaced xs), decimal_ten x (omega (arith, s.0)), spaced-short xs s.1)
 
-pub command_said : (letter : ℕ) (xs : List ℕ) → Small xs → length xs ≤ 5 → command_of (letter ∷ spaced xs) ≡ shape letter (some xs)
+pub command_said : (letter : ℕ) (xs : List ℕ) → Small xs → length xs ≤ 5 → command_of (letter ∷ spaced xs) ≡ shape letter (Some xs)
 unfolding command_of
 command_said letter xs s h =
     let l : length (letter ∷ spaced xs) ≤ 64 = omega (arith, spaced-short xs s) in

@@ -10,7 +10,7 @@ use mathlib.Core.Path.{◌≡◌, refl, sym, ap, ◌∙◌}
 use mathlib.Core.Bool.{true, false, not}
 use mathlib.Core.Logic.{⊎_elim}
 use mathlib.Core.List.{List, [], ◌∷◌, ◌++◌}
-use mathlib.Core.Option.{some}
+use Rattle.std.specs.Prelude.{Some}
 use Prim.Native.Nat.{ℕ, zero, suc, ◌+◌, ◌*◌, ◌/◌, ◌%◌, ◌^◌, ◌≤◌, ◌<◌}
 use native.Mathlib.Omega.{arith}
 use native.Mathlib.Nat.{div-add-mod', mod-lt, mod-eq_of_lt, div-lt_iff_lt-mul, pow-suc}
@@ -70,7 +70,7 @@ decimal-first (suc k) x h =
     front [] a b v = refl
     front (d ∷ ds) a b v = leading d ds (48 + x % 10) [] a b ∙ ap not (ne_eqb (value (d ∷ ds)) 0 (λ e. omega arith))
 
-pub number-text : (x : ℕ) → x ≤ 4294967295 → number (decimal x) ≡ some x
+pub number-text : (x : ℕ) → x ≤ 4294967295 → number (decimal x) ≡ Some x
 unfolding decimal
 number-text x h =
     let low : x < 10 ^ 20 = omega arith in

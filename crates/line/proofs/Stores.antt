@@ -1,16 +1,14 @@
--- The two walks that store texts.
---     copied_more     one byte more of those that are copied
+-- The walk that stores digits.
 --     placed-before, digit-stored    one byte stored before the rest of a text: digits, from the last on
 -- Assumes nothing.
 use mathlib.Core.Path.{◌≡◌, refl, sym, ap, ◌∙◌}
 use mathlib.Core.List.{List, [], ◌∷◌, ◌++◌, append_assoc}
 use Prim.Native.Nat.{ℕ, zero, suc, ◌+◌, ◌-◌, ◌/◌, ◌%◌, ◌≤◌, ◌<◌}
 use native.Mathlib.Omega.{arith}
-use lib.ListN.{length, take, drop, get_or, set, length-append}
+use lib.ListN.{length, take, drop, set, length-append}
 use lib.Seq.{set_split, length-take-le, take-set-le, drop_at}
 use Rattle.lists.specs.Rows.{placed}
-use Rattle.lists.proofs.Places.{placed_more}
-use Rattle.lists.proofs.Steps.{take_next, length_more}
+use Rattle.lists.proofs.Steps.{length_more}
 use Rattle.line.proofs.Decimals.{last_digits}
 
 pub placed-before : (row : List ℕ) (k : ℕ) (xs : List ℕ) (d : ℕ) → k + length xs < length row
@@ -22,15 +20,6 @@ placed-before row k xs d h =
     ap (drop j) (set_split row j d h) ∙ drop_at (take j row) (d ∷ drop (suc j) row) j (length-take-le j row (omega arith)) in
     let e : suc j ≡ k + length (xs ++ (d ∷ [])) = omega (arith, length-append xs (d ∷ [])) in
     rw (t, b, e, append_assoc xs (d ∷ []) (drop (k + length (xs ++ (d ∷ []))) row))
-
--- a walk that copies bytes
-pub copied_more : (row : List ℕ) (at : ℕ) (bytes : List ℕ) (i : ℕ) → at + length bytes ≤ length row → i < length bytes
-    → set (placed row at (take i bytes)) (at + i) (get_or bytes i 0) ≡ placed row at (take (i + 1) bytes)
-copied_more row at bytes i h l =
-    let n : length (take i bytes) ≡ i = length-take-le i bytes (omega arith) in
-    let m : set (placed row at (take i bytes)) (at + length (take i bytes)) (get_or bytes i 0) ≡ placed row at (take i bytes ++ (get_or bytes i 0 ∷ [])) =
-    placed_more row at (take i bytes) (get_or bytes i 0) (omega arith) in
-    ap (λ (k : ℕ). set (placed row at (take i bytes)) (at + k) (get_or bytes i 0)) (sym n) ∙ m ∙ ap (placed row at) (sym (take_next bytes i l))
 
 -- a walk that stores digits from the last on
 last-length : (m y : ℕ) → length (last_digits m y) ≡ m

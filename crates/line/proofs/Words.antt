@@ -2,25 +2,28 @@
 --     split, words-first     the first word of a line, and what stands after it
 --     digits_append, onward-append, onward_grows    more digits
 --     leading         a leading zero shows in the value of the digits so far
---     reads, reads_word      a walk over a word, with what it stops at, gives the number
---     reads_end, reads_space, reads_stop, reads_large, reads_on      the turns of the walk
---     digit_low       a byte that does not stop it is no less than 48
+--     parts, words_split     the words are the parts that the library's split gives
+--     Begun           the bytes of a word up to a place are digits, with their value
+--     begun_none, begun_more, begun_all     no byte yet; one digit more; the whole word
+--     begun_other, begun_large     a byte that is no digit; too large a value
+--     empty_word, zero_first       an empty word; a 0 before another digit
 -- Assumes nothing.
 use mathlib.Core.Path.{◌≡◌, refl, sym, ap, ◌∙◌}
-use mathlib.Core.Bool.{Bool, true, false, not, cond, ◌&&◌, ◌||◌, and-eq-true_iff, and-false, false≢true}
+use mathlib.Core.Bool.{true, false, not, ◌&&◌, and-eq-true_iff, and-false}
 use mathlib.Core.Logic.{⊎_elim}
-use mathlib.Core.List.{List, [], ◌∷◌, ◌++◌, append_assoc, append-nil}
+use mathlib.Core.List.{List, [], ◌∷◌, ◌++◌}
+use Rattle.std.specs.Prelude.{Some, None}
+use Rattle.std.specs.List.{slice_split, onto_first}
 use Prim.Native.Nat.{ℕ, ◌+◌, ◌*◌, ◌-◌, ◌≤◌, ◌<◌}
 use native.Mathlib.Omega.{arith}
 use lib.Dec.{leb, ltb, eqb}
-use lib.ListN.{length, drop, get_or, length-append, drop_of_length-le}
-use borrow.Author.Tests.{le-leb, lt-leb, leb-true, ltb-true, ltb-false, lt-ltb, le-ltb, eqb-true, eqb-false, eq-eqb, ne_eqb, not-true}
+use lib.ListN.{length, take, drop, get_or, take-append-drop}
+use lib.Seq.{take_all}
+use borrow.Author.Tests.{le-leb, lt-leb, leb-true, lt-ltb, eqb-true, eqb-false, eq-eqb, ne_eqb, not-true}
 use Rattle.lists.proofs.Tests.{tested, same_test}
-use Rattle.lists.proofs.Steps.{next}
-use Rattle.line.specs.declared.commands.Number.{Number}
-use Rattle.line.specs.declared.commands.Number.TheVariants.{Bad}
-use Rattle.line.specs.Lines.{Word, words, digit, digits, no_leading_zero, onward, value, is_number, number, both, numbers}
-use Rattle.line.specs.Reading.{first_word, after_word, ended, word_at, numbers_after}
+use Rattle.lists.proofs.Steps.{next, take_next}
+use Rattle.line.specs.Lines.{Word, into, words, digit, digits, no_leading_zero, onward, value, is_number, number, both, numbers}
+use Rattle.line.specs.Reading.{first_word, after_word, numbers_after}
 
 -- the words after the first: none, or those after a space
 unfoldable pub words_after : List ℕ → List Word
@@ -41,6 +44,22 @@ after (x ∷ xs) = ⊎_elim (λ (e : eqb x 32 ≡ true). rw (e, e) refl) (λ (e 
 
 pub words-first : (xs : List ℕ) → numbers (words xs) ≡ both (number (first_word xs)) (numbers_after (after_word xs))
 words-first xs = rw (split xs, after xs)
+
+-- the parts between spaces, as the library's split gives them
+abbrev pub parts : List ℕ → List Word
+parts = slice_split (λ x. eqb x 32)
+
+pub words_split : (xs : List ℕ) → parts xs ≡ words xs
+words_split [] = refl
+words_split (x ∷ xs) =
+    ⊎_elim
+    (λ (e : eqb x 32 ≡ true). rw (e, words_split xs))
+    (λ (e : eqb x 32 ≡ false). rw (e, words_split xs) (onto (words xs)))
+    (tested (eqb x 32))
+  where
+    onto : (ws : List Word) → onto_first x ws ≡ into x ws
+    onto [] = refl
+    onto (w ∷ ws) = refl
 
 pub digits_append : (v w : Word) → digits (v ++ w) ≡ (digits v && digits w)
 digits_append [] w = refl
@@ -70,134 +89,66 @@ leading d (e ∷ ds) x w a b =
     let g : 0 * 10 + (d - 48) ≤ value (d ∷ e ∷ ds) = onward_grows (0 * 10 + (d - 48)) (e ∷ ds) in
     b ∙ ap not (sym (ne_eqb (value (d ∷ e ∷ ds)) 0 (λ q. eqb-false (0 * 10 + (d - 48)) 0 z (omega arith))))
 
--- the value with one digit more
-abbrev pub grown : ℕ → ℕ → ℕ
-grown v x = v * 10 + (x - 48)
+-- the first k bytes of a word are digits, and v is their value
+pub record Begun (w : Word) (k v : ℕ) : Type 0 where
+  pub all : digits (take k w) ≡ true
+  pub worth : value (take k w) ≡ v
+  pub low : v ≤ 4294967295
 
--- the byte x stops the walk: it is no digit, or it comes after a first 0
-abbrev pub stops : ℕ → ℕ → ℕ → ℕ → Bool
-stops at i v x = ltb x 48 || (ltb 57 x || (ltb at i && eqb v 0))
+pub begun_none : (w : Word) → Begun w 0 0
+begun_none w = record { all = refl; worth = refl; low = omega arith }
 
--- the walk over a word from place at on, that has come to place i with the value v
-abbrev pub reads : ℕ → ℕ → ℕ → List ℕ → Number
-reads at i v [] = ended at i v
-reads at i v (x ∷ xs) =
-    cond (eqb x 32) (ended at i v) (cond (stops at i v x) Bad (cond (ltb 4294967295 (grown v x)) Bad (reads at (i + 1) (grown v x) xs)))
+-- a word by its byte at place k
+cut : (w : Word) (k : ℕ) → k < length w → w ≡ take k w ++ (get_or w k 0 ∷ drop (k + 1) w)
+cut w k h = sym (take-append-drop k w) ∙ ap (λ (l : Word). take k w ++ l) (next w k h)
 
--- digits that may begin a number
-record Begun (ds : Word) : Type 0 where
-  all : digits ds ≡ true
-  first : no_leading_zero ds ≡ true
-  low : value ds ≤ 4294967295
+refused : (w : Word) → is_number w ≡ false → None ≡ number w
+refused w e = rw e
 
--- read to its end, a begun word is a number unless it is empty
-finished : (at : ℕ) (ds : Word) → Begun ds → ended at (at + length ds) (value ds) ≡ word_at at ds
-unfolding word_at
-finished at [] b = let e : ltb at (at + 0) ≡ false = le-ltb at (at + 0) (omega arith) in rw e
-finished at (d ∷ ds) b =
-    let e : ltb at (at + length (d ∷ ds)) ≡ true = lt-ltb at (at + length (d ∷ ds)) (omega arith) in
-    let f : ltb 0 (length (d ∷ ds)) ≡ true = lt-ltb 0 (length (d ∷ ds)) (omega arith) in
-    rw (e, f, b.all, b.first, le-leb _ _ b.low)
+module _ {w : Word} {k v : ℕ} (b : Begun w k v) where
+  pub begun_all : length w ≤ k → 0 < length w → no_leading_zero w ≡ true → Some v ≡ number w
+  begun_all h l z =
+      let t : take k w ≡ w = take_all k w h in
+      let d : digits w ≡ true = ap digits (sym t) ∙ b.all in
+      let e : value w ≡ v = ap value (sym t) ∙ b.worth in
+      let s : leb v 4294967295 ≡ true = le-leb v 4294967295 b.low in
+      rw (lt-ltb 0 (length w) l, d, z, e, s)
 
-module _ (at : ℕ) (ds : Word) (x : ℕ) (b : Begun ds) where
-  one_more : value (ds ++ (x ∷ [])) ≡ grown (value ds) x
-  one_more = onward-append 0 ds (x ∷ [])
+  module _ (h : k < length w) where
+    onward_next : (r : Word) → onward 0 (take k w ++ (get_or w k 0 ∷ r)) ≡ onward (v * 10 + (get_or w k 0 - 48)) r
+    onward_next r = rw (onward-append 0 (take k w) (get_or w k 0 ∷ r), b.worth)
 
-  more : digit x ≡ true → (ltb at (at + length ds) && eqb (value ds) 0) ≡ false → grown (value ds) x ≤ 4294967295 → Begun (ds ++ (x ∷ []))
-  more t z l = record { all = rw (digits_append ds (x ∷ []), b.all, t); first = front ds b z; low = omega (arith, one_more) }
-    where
-      front : (ds : Word) → Begun ds → (ltb at (at + length ds) && eqb (value ds) 0) ≡ false → no_leading_zero (ds ++ (x ∷ [])) ≡ true
-      front [] b z = refl
-      front (d ∷ ds) b z =
-          let e : ltb at (at + length (d ∷ ds)) ≡ true = lt-ltb at (at + length (d ∷ ds)) (omega arith) in
-          let q : eqb (value (d ∷ ds)) 0 ≡ false = ap (λ (t : Bool). t && eqb (value (d ∷ ds)) 0) (sym e) ∙ z in
-          leading d ds x [] b.all b.first ∙ ap not q
+    pub begun_more : digit (get_or w k 0) ≡ true → v * 10 + (get_or w k 0 - 48) ≤ 4294967295 → Begun w (k + 1) (v * 10 + (get_or w k 0 - 48))
+    begun_more d l =
+        let t : take (k + 1) w ≡ take k w ++ (get_or w k 0 ∷ []) = take_next w k h in
+        record { all = rw (t, digits_append (take k w) (get_or w k 0 ∷ []), b.all, d); worth = ap value t ∙ onward_next []; low = l }
 
-  module _ (w : Word) where
-    no_digit : digit x ≡ false → is_number (ds ++ (x ∷ w)) ≡ false
-    no_digit e = rw (digits_append ds (x ∷ w), e, and-false (digits ds), and-false (ltb 0 (length (ds ++ (x ∷ w)))))
+    pub begun_other : digit (get_or w k 0) ≡ false → None ≡ number w
+    begun_other d =
+        let e : digits w ≡ false =
+        ap digits (cut w k h) ∙ digits_append (take k w) (get_or w k 0 ∷ drop (k + 1) w) ∙ (rw (d, and-false (digits (take k w)))) in
+        refused w (rw (e, and-false (ltb 0 (length w))))
 
-    too_large : 4294967295 < grown (value ds) x → is_number (ds ++ (x ∷ w)) ≡ false
-    too_large l =
-        let g : grown (value ds) x ≤ value (ds ++ (x ∷ w)) = rw (onward-append 0 ds (x ∷ w)) (onward_grows (grown (value ds) x) w) in
-        let e : leb (value (ds ++ (x ∷ w))) 4294967295 ≡ false = lt-leb (value (ds ++ (x ∷ w))) 4294967295 (omega arith) in
-        rw (e, and-false (no_leading_zero (ds ++ (x ∷ w))), and-false (digits (ds ++ (x ∷ w))), and-false (ltb 0 (length (ds ++ (x ∷ w)))))
+    pub begun_large : 4294967295 < v * 10 + (get_or w k 0 - 48) → None ≡ number w
+    begun_large l =
+        let g : v * 10 + (get_or w k 0 - 48) ≤ value w =
+        rw (← cut w k h) at (rw (← onward_next (drop (k + 1) w)) at (onward_grows (v * 10 + (get_or w k 0 - 48)) (drop (k + 1) w))) in
+        let e : leb (value w) 4294967295 ≡ false = lt-leb (value w) 4294967295 (omega arith) in
+        refused w (rw (e, and-false (no_leading_zero w), and-false (digits w), and-false (ltb 0 (length w))))
 
-after-zero : (at : ℕ) (ds : Word) (x : ℕ) (w : Word) → Begun ds → (ltb at (at + length ds) && eqb (value ds) 0) ≡ true → is_number (ds ++ (x ∷ w)) ≡ false
-after-zero at [] x w b z = let h : at < at + 0 = ltb-true at (at + 0) ((and-eq-true_iff (ltb at (at + 0)) true).0 z).0 in absurd (omega arith)
-after-zero at (d ∷ ds) x w b z =
-    let q : eqb (value (d ∷ ds)) 0 ≡ true = ((and-eq-true_iff (ltb at (at + length (d ∷ ds))) (eqb (value (d ∷ ds)) 0)).0 z).1 in
-    let e : no_leading_zero (d ∷ ds ++ (x ∷ w)) ≡ false = leading d ds x w b.all b.first ∙ ap not q in
-    rw (e, and-false (digits (d ∷ ds ++ (x ∷ w))), and-false (ltb 0 (length (d ∷ ds ++ (x ∷ w)))))
+pub empty_word : (w : Word) → length w ≡ 0 → None ≡ number w
+empty_word [] h = refl
+empty_word (x ∷ w) h = absurd (omega arith)
 
-refused : (at : ℕ) (w : Word) → is_number w ≡ false → Bad ≡ word_at at w
-unfolding word_at
-refused at w e = rw e
+pub zero_first : (w : Word) → get_or w 0 0 ≡ 48 → 1 < length w → None ≡ number w
+zero_first [] e h = absurd (omega arith)
+zero_first (x ∷ []) e h = absurd (omega arith)
+zero_first (x ∷ y ∷ w) e h =
+    let z : no_leading_zero (x ∷ y ∷ w) ≡ false = rw e in
+    refused (x ∷ y ∷ w) (rw (z, and-false (digits (x ∷ y ∷ w)), and-false (ltb 0 (length (x ∷ y ∷ w)))))
 
-reads_from : (xs : List ℕ) (at : ℕ) (ds : Word) → Begun ds → reads at (at + length ds) (value ds) xs ≡ word_at at (ds ++ first_word xs)
-reads_from [] at ds b = rw append-nil (finished at ds b)
-reads_from (x ∷ xs) at ds b =
-    ⊎_elim
-    (λ (e : eqb x 32 ≡ true). rw (e, append-nil) (finished at ds b))
-    (λ (e : eqb x 32 ≡ false).
-    rw e
-    (⊎_elim
-    (λ (t : ltb x 48 ≡ true).
-    let n : digit x ≡ false = ap (λ (u : Bool). u && leb x 57) (lt-leb 48 x (ltb-true x 48 t)) in
-    rw t (refused at (ds ++ (x ∷ first_word xs)) (no_digit at ds x b (first_word xs) n)))
-    (λ (t : ltb x 48 ≡ false).
-    ⊎_elim
-    (λ (u : ltb 57 x ≡ true).
-    let n : digit x ≡ false = ap (λ (u : Bool). leb 48 x && u) (lt-leb x 57 (ltb-true 57 x u)) ∙ and-false (leb 48 x) in
-    rw (t, u) (refused at (ds ++ (x ∷ first_word xs)) (no_digit at ds x b (first_word xs) n)))
-    (λ (u : ltb 57 x ≡ false).
-    let n : digit x ≡ true = rw (le-leb 48 x (ltb-false x 48 t), le-leb x 57 (ltb-false 57 x u)) in
-    ⊎_elim
-    (λ (z : (ltb at (at + length ds) && eqb (value ds) 0) ≡ true). rw (t, u, z) (refused at (ds ++ (x ∷ first_word xs)) (after-zero at ds x (first_word xs) b z)))
-    (λ (z : (ltb at (at + length ds) && eqb (value ds) 0) ≡ false).
-    ⊎_elim
-    (λ (l : ltb 4294967295 (grown (value ds) x) ≡ true).
-    rw (t, u, z, l) (refused at (ds ++ (x ∷ first_word xs)) (too_large at ds x b (first_word xs) (ltb-true _ _ l))))
-    (λ (l : ltb 4294967295 (grown (value ds) x) ≡ false).
-    let i : at + length ds + 1 ≡ at + length (ds ++ (x ∷ [])) = omega (arith, length-append ds (x ∷ [])) in
-    let ih : reads at (at + length (ds ++ (x ∷ []))) (value (ds ++ (x ∷ []))) xs ≡ word_at at ((ds ++ (x ∷ [])) ++ first_word xs) =
-    reads_from xs at (ds ++ (x ∷ [])) (more at ds x b n z (ltb-false _ _ l)) in
-    rw (t, u, z, l, i, ← one_more at ds x b) (ih ∙ ap (word_at at) (append_assoc ds (x ∷ []) (first_word xs))))
-    (tested (ltb 4294967295 (grown (value ds) x))))
-    (tested (ltb at (at + length ds) && eqb (value ds) 0)))
-    (tested (ltb 57 x)))
-    (tested (ltb x 48))))
-    (tested (eqb x 32))
-
-pub reads_word : (at : ℕ) (xs : List ℕ) → reads at at 0 xs ≡ word_at at (first_word xs)
-reads_word at xs =
-    let e : at ≡ at + 0 = omega arith in
-    ap (λ (i : ℕ). reads at i 0 xs) e ∙ reads_from xs at [] (record { all = refl; first = refl; low = omega arith })
-
--- a turn of the walk, at place i of a line
-module _ (at i v : ℕ) (line : List ℕ) where
-  pub reads_end : length line ≤ i → reads at i v (drop i line) ≡ ended at i v
-  reads_end h = rw (drop_of_length-le line h)
-
-  module _ (h : i < length line) where
-    pub reads_space : get_or line i 0 ≡ 32 → reads at i v (drop i line) ≡ ended at i v
-    reads_space e = rw (next line i h, eq-eqb _ _ e)
-
-    module _ (ne : get_or line i 0 ≡ 32 → ⊥) where
-      pub reads_stop : stops at i v (get_or line i 0) ≡ true → reads at i v (drop i line) ≡ Bad
-      reads_stop t = rw (next line i h, ne_eqb _ _ ne, t)
-
-      module _ (t : stops at i v (get_or line i 0) ≡ false) where
-        pub reads_large : 4294967295 < grown v (get_or line i 0) → reads at i v (drop i line) ≡ Bad
-        reads_large l = rw (next line i h, ne_eqb _ _ ne, t, lt-ltb _ _ l)
-
-        pub reads_on : grown v (get_or line i 0) ≤ 4294967295 → reads at i v (drop i line) ≡ reads at (i + 1) (grown v (get_or line i 0)) (drop (i + 1) line)
-        reads_on l = rw (next line i h, ne_eqb _ _ ne, t, le-ltb _ _ l)
-
-pub digit_low : (at i v x : ℕ) → stops at i v x ≡ false → 48 ≤ x
-digit_low at i v x e =
-    ltb-false x 48
-    (⊎_elim
-    (λ (t : ltb x 48 ≡ true). absurd (false≢true (sym e ∙ ap (λ (u : Bool). u || (ltb 57 x || (ltb at i && eqb v 0))) t)))
-    (λ t. t)
-    (tested (ltb x 48)))
+-- a lone digit, or a first one that is not 0
+pub no_zero : (w : Word) → (get_or w 0 0 ≡ 48 → length w ≤ 1) → no_leading_zero w ≡ true
+no_zero [] f = refl
+no_zero (x ∷ []) f = refl
+no_zero (x ∷ y ∷ w) f = ap not (ne_eqb x 48 (λ e. omega (arith, f e)))

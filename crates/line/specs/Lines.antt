@@ -1,9 +1,8 @@
 -- A line of potcount's input, without its newline, and what it asks for. Assumes nothing: these are definitions.
-use Rattle.std.specs.Prelude.{ℕ, ◌+◌, ◌*◌, ◌-◌, Bool, true, not, cond, ◌&&◌, List, [], ◌∷◌, leb, ltb, eqb, length}
+use Rattle.std.specs.Prelude.{ℕ, ◌+◌, ◌*◌, ◌-◌, Bool, true, not, cond, ◌&&◌, List, [], ◌∷◌, leb, ltb, eqb, length, Option, Some, None}
 use Prim.Native.Char.{code}
-use Rattle.std.proofs.Math.Option.{Option, some, none}
 use Rattle.line.specs.declared.commands.Command.{Command}
-use Rattle.line.specs.declared.commands.Command.TheVariants.{Settings, Add, Estimate, Count, Next, Unknown}
+use Rattle.line.specs.declared.commands.Command.TheVariants.{Settings, Add, Estimate, Count, Next}
 
 -- a word: the bytes between two spaces
 abbrev pub Word : Type 0
@@ -45,36 +44,36 @@ abbrev pub is_number : Word → Bool
 is_number w = ltb 0 (length w) && (digits w && (no_leading_zero w && leb (value w) 4294967295))
 
 abbrev pub number : Word → Option ℕ
-number w = cond (is_number w) (some (value w)) none
+number w = cond (is_number w) (Some (value w)) None
 
 abbrev pub both : Option ℕ → Option (List ℕ) → Option (List ℕ)
-both (some x) (some xs) = some (x ∷ xs)
-both (some x) none = none
-both none xs = none
+both (Some x) (Some xs) = Some (x ∷ xs)
+both (Some x) None = None
+both None xs = None
 
 -- each word is a number
 abbrev pub numbers : List Word → Option (List ℕ)
-numbers [] = some []
+numbers [] = Some []
 numbers (w ∷ ws) = both (number w) (numbers ws)
 
 -- the five shapes: a letter, each with so many numbers
-abbrev pub shape : ℕ → Option (List ℕ) → Command
-shape letter none = Unknown
-shape letter (some []) = cond (eqb letter (code "E")) Estimate Unknown
-shape letter (some (x ∷ [])) = Unknown
-shape letter (some (x ∷ y ∷ [])) = cond (eqb letter (code "A")) (Add x y) (cond (eqb letter (code "N")) (Next x y) Unknown)
-shape letter (some (x ∷ y ∷ z ∷ [])) = cond (eqb letter (code "C")) (Count x y z) Unknown
-shape letter (some (x ∷ y ∷ z ∷ u ∷ [])) = Unknown
-shape letter (some (n ∷ p ∷ a ∷ b ∷ capacity ∷ [])) = cond (eqb letter (code "S")) (Settings n p a b capacity) Unknown
-shape letter (some (n ∷ p ∷ a ∷ b ∷ capacity ∷ x ∷ xs)) = Unknown
+abbrev pub shape : ℕ → Option (List ℕ) → Option Command
+shape letter None = None
+shape letter (Some []) = cond (eqb letter (code "E")) (Some Estimate) None
+shape letter (Some (x ∷ [])) = None
+shape letter (Some (x ∷ y ∷ [])) = cond (eqb letter (code "A")) (Some (Add x y)) (cond (eqb letter (code "N")) (Some (Next x y)) None)
+shape letter (Some (x ∷ y ∷ z ∷ [])) = cond (eqb letter (code "C")) (Some (Count x y z)) None
+shape letter (Some (x ∷ y ∷ z ∷ u ∷ [])) = None
+shape letter (Some (n ∷ p ∷ a ∷ b ∷ capacity ∷ [])) = cond (eqb letter (code "S")) (Some (Settings (record { n = n; p = p; a = a; b = b; capacity = capacity }))) None
+shape letter (Some (n ∷ p ∷ a ∷ b ∷ capacity ∷ x ∷ xs)) = None
 
 -- the first word is one letter, and the others are numbers
-abbrev pub spoken : List Word → Command
-spoken [] = Unknown
-spoken ([] ∷ ws) = Unknown
+abbrev pub spoken : List Word → Option Command
+spoken [] = None
+spoken ([] ∷ ws) = None
 spoken ((letter ∷ []) ∷ ws) = shape letter (numbers ws)
-spoken ((x ∷ y ∷ w) ∷ ws) = Unknown
+spoken ((x ∷ y ∷ w) ∷ ws) = None
 
 -- what a line asks for: at most 64 bytes, of a known shape (RULES: Program)
-unfoldable pub command_of : List ℕ → Command
-command_of line = cond (leb (length line) 64) (spoken (words line)) Unknown
+unfoldable pub command_of : List ℕ → Option Command
+command_of line = cond (leb (length line) 64) (spoken (words line)) None

@@ -1,7 +1,11 @@
 -- The answers of potcount, as bytes. Assumes nothing: these are definitions.
-use Rattle.std.specs.Prelude.{ℕ, zero, suc, ◌+◌, ◌/◌, ◌%◌, ◌≤◌, ◌≡◌, Bool, true, cond, ◌&&◌, List, [], ◌∷◌, ◌++◌, leb, ltb, length}
+use Rattle.std.specs.Prelude.{ℕ, zero, suc, ◌+◌, ◌/◌, ◌%◌, ◌≤◌, ◌≡◌, Bool, true, cond, ◌&&◌, List, [], ◌∷◌, ◌++◌, leb, ltb, length, Some, None, Result, Ok, Err}
 use Prim.Native.Char.{code}
 use Prim.Native.String.{String, [] as none, ◌∷◌ as ◌then◌}
+use Rattle.line.specs.declared.commands.Answer.{Answer}
+use Rattle.line.specs.declared.commands.Answer.TheVariants.{Kept, Exact, About, Count, Next}
+use Rattle.rule.specs.declared.refusals.Refusal.{Refusal}
+use Rattle.rule.specs.Refusals.{number_of}
 
 -- a text as bytes, one for each character
 abbrev pub bytes : String → List ℕ
@@ -48,6 +52,16 @@ text_none = bytes "N none\n"
 -- `R number`
 abbrev pub text_refusal : ℕ → List ℕ
 text_refusal = text_line (bytes "R ")
+
+-- an answer or a refusal as a line
+abbrev pub text_of : Result Answer Refusal → List ℕ
+text_of (Ok (Kept level cells)) = text_kept level cells
+text_of (Ok (Exact v)) = text_exact v
+text_of (Ok (About v)) = text_about v
+text_of (Ok (Count v)) = text_count v
+text_of (Ok (Next (Some cell))) = text_cell cell
+text_of (Ok (Next None)) = text_none
+text_of (Err refusal) = text_refusal (number_of refusal)
 
 -- bytes that are seen, and the space
 abbrev pub visible : List ℕ → Bool

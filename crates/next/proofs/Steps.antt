@@ -1,12 +1,12 @@
 -- The laws by which the functions' proofs go: the first elements of the rounds, as they are or mirrored, and what the search's answer says of the hits.
 -- Assumes nothing.
-use mathlib.Core.Path.{◌≡◌, ap, sym, subst, ◌∙◌}
+use mathlib.Core.Path.{◌≡◌, ap, ◌∙◌}
 use Prim.Native.Nat.{ℕ, zero, suc, ◌+◌, ◌-◌, ◌*◌, ◌/◌, ◌%◌, ◌<◌, ◌≤◌}
 use native.Mathlib.Nat.{lt_of_not-le, mul-le-mul_right, mul-le-mul_left, mod-lt, mod-le, mod-eq_of_lt, mul-add-mod_self_right, div-add-mod'}
 use native.Mathlib.Omega.{arith, by_contra}
 use Rattle.next.specs.Hit.{IsBelow, Finds}
 use Rattle.next.specs.Rounds.{HitIn, Least, Searched}
-use Rattle.next.specs.declared.Index.TheVariants.{At, Nothing}
+use Rattle.std.specs.Prelude.{Some, None}
 
 -- the index of the first element of round 1, and that element modulo p
 abbrev pub first : ℕ → ℕ → ℕ → ℕ
@@ -36,12 +36,6 @@ few_rounds p a u k i up ap h =
 none-answer : (p a u l w b : ℕ) → ((i k : ℕ) → i * w < b → ¬ HitIn p a u l k i) → Least p a u l w b 0 0
 none-answer p a u l w b none =
     record { hit = λ h. absurd (omega arith); near = λ h. absurd (omega arith); least = λ i k h z. absurd (none i k h z) }
-
--- an answer in one number
-pub packed_answer : (p a u l w b h index round : ℕ) → (h / 4294967296 ≡ index) × (h % 4294967296 ≡ round) → Least p a u l w b index round
-    → Least p a u l w b (h / 4294967296) (h % 4294967296)
-packed_answer p a u l w b h index round e x =
-    subst (Least p a u l w b (h / 4294967296)) (sym e.1) (subst (λ (y : ℕ). Least p a u l w b y round) (sym e.0) x)
 
 pub still_answer : (p a u l w b : ℕ) → Searched p a u l w → a ≡ 0 → Least p a u l w b 0 0
 still_answer p a u l w b t e = none-answer p a u l w b none
@@ -228,29 +222,29 @@ module _ (p a u l n index round : ℕ) (x : Least p a u l 1 n index round) where
   found : (i : ℕ) → i < n → IsBelow p a u l i → (0 < round) × (index ≤ i)
   found i h z = x.least i ((u + i * a) / p) (omega arith) (hit_in p a u l i z)
 
-  pub answer-found : 0 < round → index < n → Finds p a u l n (At index)
+  pub answer-found : 0 < round → index < n → Finds p a u l n (Some index)
   unfolding Finds
   answer-found r h =
       (h, record { hit = in_hit p a u l round index (x.hit r); least = λ i g z. omega (arith, found i (omega arith) z) })
 
-  pub answer-none : round ≡ 0 → Finds p a u l n Nothing
+  pub answer-none : round ≡ 0 → Finds p a u l n None
   unfolding Finds
   answer-none r i h z = omega (arith, found i h z)
 
-  pub answer_later : n ≤ index → Finds p a u l n Nothing
+  pub answer_later : n ≤ index → Finds p a u l n None
   unfolding Finds
   answer_later g i h z = omega (arith, found i h z)
 
 -- the answers that need no search
-pub answer_empty : (p a u l n : ℕ) → n ≡ 0 → Finds p a u l n Nothing
+pub answer_empty : (p a u l n : ℕ) → n ≡ 0 → Finds p a u l n None
 unfolding Finds
 answer_empty p a u l n e i h z = omega arith
 
-pub answer-zero : (p a u l n : ℕ) → l ≡ 0 → Finds p a u l n Nothing
+pub answer-zero : (p a u l n : ℕ) → l ≡ 0 → Finds p a u l n None
 unfolding Finds
 answer-zero p a u l n e i h z = omega arith
 
-pub answer_here : (p a u l n : ℕ) → u < p → u < l → 0 < n → Finds p a u l n (At 0)
+pub answer_here : (p a u l n : ℕ) → u < p → u < l → 0 < n → Finds p a u l n (Some 0)
 unfolding Finds
 answer_here p a u l n up ul pn =
     let z : u + 0 * a ≡ u = omega arith in

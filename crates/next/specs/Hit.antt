@@ -1,7 +1,5 @@
 -- The first element of an arithmetic progression, taken modulo p, that lies below l: definitions. Assumes nothing.
-use Rattle.std.specs.Prelude.{ℕ, ◌+◌, ◌*◌, ◌%◌, ◌<◌, ◌≤◌}
-use Rattle.next.specs.declared.Index.{Index}
-use Rattle.next.specs.declared.Index.TheVariants.{At, Nothing}
+use Rattle.std.specs.Prelude.{ℕ, ◌+◌, ◌*◌, ◌%◌, ◌<◌, ◌≤◌, Option, Some, None}
 
 -- element i of u, u + a, u + 2a, .. modulo p lies below l
 abbrev pub IsBelow : ℕ → ℕ → ℕ → ℕ → ℕ → Type 0
@@ -13,9 +11,9 @@ pub record First (p a u l i : ℕ) : Type 0 where
   pub least : (j : ℕ) → j < i → ¬ IsBelow p a u l j
 
 -- the least such among the first n elements, or that there is none
-unfoldable pub Finds : ℕ → ℕ → ℕ → ℕ → ℕ → Index → Type 0
-Finds p a u l n (At i) = (i < n) × First p a u l i
-Finds p a u l n Nothing = (i : ℕ) → i < n → ¬ IsBelow p a u l i
+unfoldable pub Finds : ℕ → ℕ → ℕ → ℕ → ℕ → Option ℕ → Type 0
+Finds p a u l n (Some i) = (i < n) × First p a u l i
+Finds p a u l n None = (i : ℕ) → i < n → ¬ IsBelow p a u l i
 
 -- a modulus, a difference and a first element that the functions take: a product of two of them fits 64 bits
 pub record Progression (p a u : ℕ) : Type 0 where

@@ -4,7 +4,6 @@
 #![tactic(auto)]
 
 use rule::Settings;
-use rule::answers::Counted;
 use sketch::Sketch;
 use sketch::estimates::Estimate;
 use std::io;
@@ -20,24 +19,13 @@ fn kitchen() -> Settings {
     }
 }
 
-fn text(rt: &impl Print, what: &str) -> io::Result<()> {
-    print!(rt; "{what}")
-}
-
-fn number(rt: &impl Print, x: u32) -> io::Result<()> {
-    print!(rt; "{x}")
-}
-
 // The highest level at which the cell passes; at level 0 every cell does.
 fn highest(settings: Settings, x: u32) -> u32 {
-    let mut level = settings.top();
-    while 0 < level {
-        if settings.passes(level, x) {
-            return level;
-        }
-        level = level - 1;
-    }
-    level
+    let top = settings.top();
+    (1..=top)
+        .rev()
+        .find(|level| settings.passes(*level, x))
+        .unwrap_or(0)
 }
 
 fn print_regions(rt: &impl Print, settings: Settings) -> io::Result<()> {
@@ -71,26 +59,14 @@ fn print_asked(rt: &impl Print, settings: Settings) -> io::Result<()> {
     println!(rt; "cell hash counts so far")
 }
 
-// A cell that it tests: what that counts, and what all have counted so far.
-fn print_step(
-    rt: &impl Print,
-    settings: Settings,
-    x: u32,
-    counts: u32,
-    many: u32,
-) -> io::Result<()> {
-    println!(rt; "{x} {} {counts} {many}", settings.hash(x))
-}
-
-// The engine's own loop, with a line printed for each cell.
+// The engine's own loop, with a line printed for each cell that it tests: what that counts, and what all
+// have counted so far.
 fn print_steps(rt: &impl Print, settings: Settings) -> io::Result<()> {
     let mut many: u32 = 0;
-    let mut x = LO;
-    while x <= HI {
+    for x in LO..=HI {
         let counts = plain::counts(settings, LEVEL, x);
         many = many + counts;
-        print_step(rt, settings, x, counts, many)?;
-        x = x + 1;
+        println!(rt; "{x} {} {counts} {many}", settings.hash(x))?;
     }
     Ok(())
 }
@@ -98,17 +74,9 @@ fn print_steps(rt: &impl Print, settings: Settings) -> io::Result<()> {
 // What it answers, which is what the last line has come to.
 fn print_counted(rt: &impl Print, settings: Settings) -> io::Result<()> {
     match plain::count(settings, LEVEL, LO, HI) {
-        Counted::Count(v) => println!(rt; "counted {v}"),
-        Counted::Refused(_) => println!(rt; "refused"),
+        Ok(v) => println!(rt; "counted {v}"),
+        Err(_) => println!(rt; "refused"),
     }
-}
-
-fn print_cells(rt: &impl Print, cells: &[u32]) -> io::Result<()> {
-    for x in cells {
-        text(rt, " ")?;
-        number(rt, *x)?;
-    }
-    Ok(())
 }
 
 // About: the number of cells times p, divided by the region's size; what is left over is let go.
@@ -125,17 +93,14 @@ fn print_estimate(rt: &impl Print, k: Sketch) -> io::Result<()> {
     match k.estimate() {
         Estimate::Exact(v) => print!(rt; ", exactly {v}"),
         Estimate::About(_) => print_about(rt, k.settings, k.level, k.count),
-        Estimate::Refused(_) => text(rt, ", refused"),
+        Estimate::Refused(_) => print!(rt; ", refused"),
     }
 }
 
 fn show(rt: &impl Print, k: Sketch) -> io::Result<()> {
     print!(rt; "level {}, cells", k.level)?;
-    let cells = k.cells;
-    let count = k.count;
-    let n = count as usize;
-    if n <= 504 {
-        print_cells(rt, &cells[..n])?;
+    for x in k.cells.iter().take(k.count as usize) {
+        print!(rt; " {x}")?;
     }
     print_estimate(rt, k)?;
     println!(rt)
@@ -150,7 +115,7 @@ fn sees(rt: &impl Print, name: &str, k: Sketch, lo: u32, hi: u32) -> io::Result<
 }
 
 fn merges(rt: &impl Print, name: &str, j: Sketch, k: Sketch) -> io::Result<()> {
-    text(rt, name)?;
+    print!(rt; "{name}")?;
     let r = j.merge(k);
     show(rt, r.sketch)
 }

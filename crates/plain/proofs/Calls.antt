@@ -1,9 +1,7 @@
 -- The laws of what the plain engine answers.
 --     small_facts     the limit's test as a fact
---     above-limit, below_limit    the number of a refusal: 1 above the limit, and below it that of the first engine
---     plain_refused, plain_answered, plain_held    what that number says of a call
 --     cell_range      a cell is a range up to n
---     plain_unknown, plain_above, plain_outside, plain_done    the answers to adding, in their order
+--     plain_refused, plain_answered, plain_held    what that refusal, or that there is none, says of a call
 --     plain_granted   where nothing refuses it, all its tests held
 --     plain_bad, plain_told     the same of a sketch
 -- Assumes nothing.
@@ -13,10 +11,12 @@ use mathlib.Core.List.{[]}
 use Prim.Native.Nat.{ℕ, ◌≤◌}
 use native.Mathlib.Omega.{arith}
 use lib.Dec.{leb}
-use borrow.Author.Tests.{le-leb, leb-true, eq-eqb, ne_eqb}
+use borrow.Author.Tests.{le-leb, leb-true}
+use Rattle.std.specs.Prelude.{Result, Ok, Err}
 use Rattle.rule.specs.declared.Settings.{Settings}
-use Rattle.rule.specs.Refusals.{Paper, answered, refused, unless, bad_settings, bad_range, not_one}
-use Rattle.find.specs.Finding.{is_cell, in_range, on_settings, Refuses}
+use Rattle.rule.specs.declared.refusals.Refusal.{Refusal}
+use Rattle.rule.specs.Refusals.{Paper, answered, refused, unless, number_of, bad_settings, bad_range, not_one}
+use Rattle.find.specs.Finding.{is_cell, in_range, on_settings}
 use Rattle.find.proofs.Checks.{unless-told, all_told}
 use Rattle.sketch.specs.declared.Sketch.{Sketch}
 use Rattle.sketch.specs.Sketches.{is_sketch}
@@ -25,22 +25,15 @@ use Rattle.plain.specs.Plain.{limit, is_small, on_small, PlainRefuses, plain_add
 pub small_facts : (s : Settings) → is_small s ≡ true → s.n ≤ limit
 small_facts s e = leb-true s.n limit e
 
-module _ (s : Settings) (level : ℕ) (t : Bool) where
-  pub above-limit : is_small s ≡ false → PlainRefuses s level t bad_settings
-  above-limit e = record { so = λ x. cc }
-
-  pub below_limit : {number : ℕ} → is_small s ≡ true → Refuses s level t number → PlainRefuses s level t number
-  below_limit e r = record { so = λ x. let y = r.so x in cc }
-
 -- t is the range's test as a call made it, and d what that is promised to be
-module _ {s : Settings} {level number : ℕ} {t d : Bool} (e : t ≡ d) (r : PlainRefuses s level t number) where
-  pub plain_refused : (x : Paper) → ¬ (number ≡ 0) → refused number 0 ≡ on_small s (on_settings s level d x)
-  plain_refused x n = let z = ne_eqb number 0 n in let y = r.so x in cc
+module _ {s : Settings} {level : ℕ} {t d : Bool} {r : Result (Unit {0}) Refusal} (e : t ≡ d) (h : PlainRefuses s level t r) where
+  pub plain_refused : (x : Paper) {refusal : Refusal} → r ≡ Err refusal → refused (number_of refusal) 0 ≡ on_small s (on_settings s level d x)
+  plain_refused x n = let y = h.so x in cc
 
-  pub plain_answered : (x : Paper) → number ≡ 0 → x ≡ on_small s (on_settings s level d x)
-  plain_answered x n = let z = eq-eqb number 0 n in let y = r.so x in cc
+  pub plain_answered : (x : Paper) {done : Unit {0}} → r ≡ Ok done → x ≡ on_small s (on_settings s level d x)
+  plain_answered x n = let y = h.so x in cc
 
-  pub plain_held : number ≡ 0 → (s.n ≤ limit) × (d ≡ true)
+  pub plain_held : {done : Unit {0}} → r ≡ Ok done → (s.n ≤ limit) × (d ≡ true)
   plain_held n =
       let small = unless-told (is_small s) bad_settings (on_settings s level d (answered [])) [] (sym (plain_answered (answered []) n)) in
       (small_facts s small.0, (all_told s level d (answered []) [] small.1).2)
@@ -48,20 +41,8 @@ module _ {s : Settings} {level number : ℕ} {t d : Bool} (e : t ≡ d) (r : Pla
 pub cell_range : (s : Settings) (x : ℕ) → in_range s x s.n ≡ is_cell s x
 cell_range s x = let e : leb s.n s.n ≡ true = le-leb s.n s.n (omega arith) in rw (e, and-true)
 
--- the answers to adding, and what an answer says
+-- what an answer to adding says
 module _ (known : Bool) (s : Settings) (lo hi : ℕ) where
-  pub plain_unknown : known ≡ false → refused not_one 0 ≡ plain_add_when known s lo hi
-  plain_unknown e = rw e
-
-  pub plain_above : known ≡ true → is_small s ≡ false → refused bad_settings 0 ≡ plain_add_when known s lo hi
-  plain_above e f = rw (e, f)
-
-  pub plain_outside : known ≡ true → is_small s ≡ true → in_range s lo hi ≡ false → refused bad_range 0 ≡ plain_add_when known s lo hi
-  plain_outside e f g = rw (e, f, g)
-
-  pub plain_done : known ≡ true → is_small s ≡ true → in_range s lo hi ≡ true → answered [] ≡ plain_add_when known s lo hi
-  plain_done e f g = rw (e, f, g)
-
   pub plain_granted : answered [] ≡ plain_add_when known s lo hi → (known ≡ true) × (s.n ≤ limit)
   plain_granted e =
       let last = unless (in_range s lo hi) bad_range (answered []) in

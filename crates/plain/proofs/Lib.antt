@@ -1,4 +1,5 @@
 -- The laws, for this crate and for those above it.
+pub mod Chains
 pub mod Walks
 pub mod Calls
 pub mod Sampling

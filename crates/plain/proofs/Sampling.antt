@@ -1,41 +1,45 @@
 -- The sample at a level, of the cells of a row together with those of lo..hi, by testing each cell.
---     in_sample, sample_left, sample-added, sample-kept      whether a cell is in it
+--     looked_for      whether a cell is kept
+--     out_of_it, of_the_stretch, of_the_kept      whether a cell is in the sample
 --     too_many, few_enough      whether it fits
 -- Assumes nothing.
-use mathlib.Core.Path.{◌≡◌}
-use mathlib.Core.Bool.{true, false, ◌&&◌, and-true, and-false, or-true, or-false}
-use mathlib.Core.List.{List}
+use mathlib.Core.Path.{◌≡◌, refl, sym, ap, ◌∙◌}
+use mathlib.Core.Bool.{Bool, true, false, ◌&&◌, ◌||◌, and-true, and-false, or-true, or-false}
+use mathlib.Core.List.{List, [], ◌∷◌}
 use Prim.Native.Nat.{ℕ, ◌<◌, ◌≤◌}
 use native.Mathlib.Omega.{arith}
-use lib.Dec.{leb}
+use lib.Dec.{leb, eqb}
 use lib.ListN.{length}
 use borrow.Author.Tests.{lt-leb}
+use Rattle.std.specs.List.{list_any}
+use Rattle.std.proofs.lemmas.Bool.Decides.{nat_tests}
 use Rattle.lists.specs.Lists.{listed}
 use Rattle.rule.specs.declared.Settings.{Settings}
-use Rattle.rule.specs.Cells.{Cells, ◌∪◌, interval}
+use Rattle.rule.specs.Cells.{Cells}
 use Rattle.rule.specs.Rule.{passes}
 use Rattle.rule.specs.Samples.{passing, sample, fits}
 use Rattle.rule.proofs.Samples.{few-fits}
+use Rattle.plain.specs.declared.adding.Adding.{Adding}
+use Rattle.plain.specs.Plain.{cells_of}
 
--- is a cell in the sample?
-abbrev pub in_sample : Settings → ℕ → List ℕ → ℕ → ℕ → Cells
-in_sample s level row lo hi = passing s (listed row ∪ interval lo hi) level
+-- is x one of the row's?
+pub looked_for : (row : List ℕ) (x : ℕ) → list_any (λ y. eqb y x) row ≡ listed row x
+looked_for [] x = refl
+looked_for (y ∷ ys) x = let e : eqb y x ≡ eqb x y = grind (arith, nat_tests) in rw e (ap (λ (t : Bool). eqb x y || t) (looked_for ys x))
 
-module _ (s : Settings) (level : ℕ) (row : List ℕ) (lo hi x : ℕ) where
-  -- it doesn't pass
-  pub sample_left : passes s level x ≡ false → false ≡ in_sample s level row lo hi x
+-- p says whether it passes
+module _ (a : Adding) (level x : ℕ) {p : Bool} (said : p ≡ passes a.settings level x) where
+  pub out_of_it : p ≡ false → p ≡ passing a.settings (cells_of a) level x
   unfolding passing
-  sample_left e = rw (e, and-false)
+  out_of_it e = e ∙ (rw (sym said ∙ e, and-false))
 
-  -- it passes, and is in lo..hi
-  pub sample-added : passes s level x ≡ true → (leb lo x && leb x hi) ≡ true → true ≡ in_sample s level row lo hi x
+  pub of_the_stretch : (t : Bool) → p ≡ true → t ≡ (leb a.lo x && leb x a.hi) → t ≡ true → t ≡ passing a.settings (cells_of a) level x
   unfolding passing
-  sample-added e f = rw (e, f, or-true)
+  of_the_stretch t e d f = f ∙ (rw (sym d ∙ f, sym said ∙ e, or-true))
 
-  -- it passes, and isn't
-  pub sample-kept : passes s level x ≡ true → (leb lo x && leb x hi) ≡ false → listed row x ≡ in_sample s level row lo hi x
+  pub of_the_kept : (r : Bool) → p ≡ true → (leb a.lo x && leb x a.hi) ≡ false → r ≡ list_any (λ y. eqb y x) a.kept.now → r ≡ passing a.settings (cells_of a) level x
   unfolding passing
-  sample-kept e f = rw (e, f, or-false, and-true)
+  of_the_kept r e f g = g ∙ looked_for a.kept.now x ∙ (rw (f, sym said ∙ e, or-false, and-true))
 
 -- whether the sample at a level fits, by how many cells it has
 module _ (s : Settings) (X : Cells) (level : ℕ) {many : ℕ} (counted : many ≡ length (sample s X level)) where

@@ -1,32 +1,23 @@
--- A walk over the cells lo, lo + 1, .., hi that tests each one.
+-- A walk over the cells lo, lo + 1, .., hi that tests each one, and stores in a row those that it finds.
 --     seen            what it has found before cell x
---     seen_none, seen_on, seen_off, seen_more    at the start, and with one more cell tested
---     count_on_lem, count_off     a walk that counts them
---     store_room, store_on, store_off     a walk that stores them in a row
---     seen_all        at the end it has found all there is
---     seen_few        it never finds more
---     first_here      the first one it finds
---     so              a cell's test, by a call's answer
+--     seen_none, seen_more    at the start, and with one more cell tested
 --     one_at_most     what one cell counts
---     kept_here, kept_on      a walk over a row that looks for x
+--     store_room, store_on, store_off     one more cell tested
+--     seen_all        at the end it has found all there is
 -- Assumes nothing.
 use mathlib.Core.Path.{◌≡◌, refl, sym, ap, ◌∙◌}
-use mathlib.Core.Bool.{Bool, true, false, ◌||◌, cond}
+use mathlib.Core.Bool.{Bool, true, false, cond}
 use mathlib.Core.List.{List, [], ◌∷◌, ◌++◌, append-nil}
-use mathlib.Core.Option.{some}
 use Prim.Native.Nat.{ℕ, suc, ◌+◌, ◌-◌, ◌≤◌, ◌<◌}
 use native.Mathlib.Omega.{arith}
-use lib.Dec.{eqb}
-use lib.ListN.{length, drop, get_or, set, length-append}
-use borrow.Author.Tests.{eq-eqb, ne_eqb}
-use Rattle.lists.specs.Lists.{listed, keep, filter, run, range}
+use lib.ListN.{length, set, length-append}
+use Rattle.lists.specs.Lists.{keep, filter, run, range}
 use Rattle.lists.specs.Rows.{Stored}
 use Rattle.lists.proofs.Filters.{filter-append}
 use Rattle.lists.proofs.Runs.{run-append, range-suc}
-use Rattle.lists.proofs.Steps.{next, length_more}
+use Rattle.lists.proofs.Steps.{length_more}
 use Rattle.lists.proofs.Stores.{stored_more, stored_as}
 use Rattle.rule.specs.Cells.{Cells}
-use Rattle.rule.specs.Samples.{first}
 
 abbrev pub seen : Cells → ℕ → ℕ → List ℕ
 seen X lo x = filter X (run lo (x - lo))
@@ -43,7 +34,7 @@ module _ (X : Cells) (lo x hi : ℕ) (h : lo ≤ x) (w : x ≤ suc hi) where
       ap (λ (k : ℕ). filter X (run lo k)) e ∙ (rw f at (ap (filter X) (run-append (x - lo) (suc hi - x) lo)
       ∙ filter-append X (run lo (x - lo)) (run (lo + (x - lo)) (suc hi - x))))
 
-  pub seen_few : length (seen X lo x) ≤ length (filter X (range lo hi))
+  seen_few : length (seen X lo x) ≤ length (filter X (range lo hi))
   seen_few = omega (arith, ap length seen_split, length-append (seen X lo x) (filter X (range x hi)))
 
 module _ (X : Cells) (lo x : ℕ) (h : lo ≤ x) where
@@ -53,18 +44,11 @@ module _ (X : Cells) (lo x : ℕ) (h : lo ≤ x) where
       let f : lo + (x - lo) ≡ x = omega arith in
       ap (λ (k : ℕ). filter X (run lo k)) e ∙ (rw f at (range-suc X lo (x - lo)))
 
-  pub seen_on : X x ≡ true → seen X lo (x + 1) ≡ seen X lo x ++ (x ∷ [])
+  seen_on : X x ≡ true → seen X lo (x + 1) ≡ seen X lo x ++ (x ∷ [])
   seen_on t = rw t at seen-keep
 
-  pub seen_off : X x ≡ false → seen X lo (x + 1) ≡ seen X lo x
+  seen_off : X x ≡ false → seen X lo (x + 1) ≡ seen X lo x
   seen_off t = rw (t, append-nil) at seen-keep
-
-  module _ {many : ℕ} (e : many ≡ length (seen X lo x)) where
-    pub count_on_lem : X x ≡ true → many + 1 ≡ length (seen X lo (x + 1))
-    count_on_lem t = ap (λ (k : ℕ). k + 1) e ∙ sym (ap length (seen_on t) ∙ length_more (seen X lo x) x)
-
-    pub count_off : X x ≡ false → many ≡ length (seen X lo (x + 1))
-    count_off t = e ∙ sym (ap length (seen_off t))
 
   pub seen_more : length (seen X lo (x + 1)) ≡ length (seen X lo x) + cond (X x) 1 0
   seen_more = ap length seen-keep ∙ length-append (seen X lo x) (keep (X x) x []) ∙ ap (λ (k : ℕ). length (seen X lo x) + k) (one (X x))
@@ -73,21 +57,14 @@ module _ (X : Cells) (lo x : ℕ) (h : lo ≤ x) where
       one true = refl
       one false = refl
 
-  pub first_here : (hi : ℕ) → x ≤ hi → seen X lo x ≡ [] → X x ≡ true → first (filter X (range lo hi)) ≡ some x
-  first_here hi w nothing t =
-      let e : suc hi - x ≡ suc (hi - x) = omega arith in
-      let here : filter X (range x hi) ≡ x ∷ filter X (run (suc x) (hi - x)) = rw (e, t) in
-      let all : filter X (range lo hi) ≡ x ∷ filter X (run (suc x) (hi - x)) = seen_split X lo x hi h (omega arith) ∙ (rw nothing here) in
-      ap first all
-
   module _ {row : List ℕ} {many : ℕ} {out : List ℕ} (g : Stored row 0 (seen X lo x) many out) where
     pub store_room : (hi : ℕ) → x ≤ hi → X x ≡ true → many < length (filter X (range lo hi))
     store_room hi w t =
         let few : length (seen X lo (x + 1)) ≤ length (filter X (range lo hi)) = seen_few X lo (x + 1) hi (omega arith) (omega arith) in
-        omega (arith, g.next_place, count_on_lem {many = length (seen X lo x)} refl t)
+        omega (arith, g.next_place, few, ap length (seen_on t), length_more (seen X lo x) x)
 
-    pub store_on : X x ≡ true → many < length row → Stored row 0 (seen X lo (x + 1)) (many + 1) (set out many x)
-    store_on t room = stored_as (stored_more g x room) (sym (seen_on t))
+    pub store_on : (hi : ℕ) → x ≤ hi → length (filter X (range lo hi)) ≤ length row → X x ≡ true → Stored row 0 (seen X lo (x + 1)) (many + 1) (set out many x)
+    store_on hi w h t = stored_as (stored_more g x (omega (arith, store_room hi w t))) (sym (seen_on t))
 
     pub store_off : X x ≡ false → Stored row 0 (seen X lo (x + 1)) many out
     store_off t = stored_as g (sym (seen_off t))
@@ -96,20 +73,7 @@ module _ (X : Cells) (lo x : ℕ) (h : lo ≤ x) where
 pub seen_all : (X : Cells) (lo x hi : ℕ) → x - lo ≤ suc hi - lo → hi < x → seen X lo x ≡ filter X (range lo hi)
 seen_all X lo x hi h w = let e : x - lo ≡ suc hi - lo = omega arith in rw e
 
--- what a call says of a cell, and what its answer was
-pub so : (X : Cells) (x : ℕ) {r t : Bool} → r ≡ X x → r ≡ t → X x ≡ t
-so X x e q = sym e ∙ q
-
+-- what one cell counts
 pub one_at_most : (t : Bool) → cond t 1 0 ≤ 1
 one_at_most true = omega arith
 one_at_most false = omega arith
-
-module _ (row : List ℕ) (i x : ℕ) (h : i < length row) where
-  next_listed : listed (drop i row) x ≡ (eqb x (get_or row i 0) || listed (drop (i + 1) row) x)
-  next_listed = ap (λ (l : List ℕ). listed l x) (next row i h)
-
-  pub kept_here : get_or row i 0 ≡ x → listed (drop i row) x ≡ true
-  kept_here e = next_listed ∙ (rw (eq-eqb x (get_or row i 0) (sym e)))
-
-  pub kept_on : ¬ (get_or row i 0 ≡ x) → listed (drop i row) x ≡ listed (drop (i + 1) row) x
-  kept_on e = next_listed ∙ (rw (ne_eqb x (get_or row i 0) (λ q. e (sym q))))

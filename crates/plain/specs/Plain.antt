@@ -1,8 +1,12 @@
 -- What the plain engine answers: up to a limit of n what the first one does. Assumes nothing: these are definitions.
-use Rattle.std.specs.Prelude.{ℕ, ◌≡◌, Bool, [], leb, eqb}
+use Rattle.std.specs.Prelude.{ℕ, ◌≡◌, Bool, [], leb, Result}
 use Rattle.rule.specs.declared.Settings.{Settings}
+use Rattle.rule.specs.declared.refusals.Refusal.{Refusal}
 use Rattle.rule.specs.Refusals.{Paper, answered, unless, bad_settings, bad_range, not_one}
-use Rattle.find.specs.Finding.{in_range, on_settings, count_on, next_on}
+use Rattle.find.specs.Finding.{in_range, on_settings, behind, count_on, next_on}
+use Rattle.lists.specs.Lists.{listed}
+use Rattle.rule.specs.Cells.{Cells, ◌∪◌, interval}
+use Rattle.plain.specs.declared.adding.Adding.{Adding}
 use Rattle.sketch.specs.declared.Sketch.{Sketch}
 use Rattle.sketch.specs.Sketches.{is_sketch}
 
@@ -26,9 +30,9 @@ plain_count_on s level lo hi = on_small s (count_on s level lo hi)
 unfoldable pub plain_next_on : Settings → ℕ → ℕ → Paper
 plain_next_on s level from = on_small s (next_on s level from)
 
--- number is that of the refusal of either, or 0 where nothing refuses
-pub record PlainRefuses (s : Settings) (level : ℕ) (inside : Bool) (number : ℕ) : Type 0 where
-  pub so : (answer : Paper) → on_small s (on_settings s level inside answer) ≡ unless (eqb number 0) number answer
+-- r is the refusal of either, where one of the tests refuses
+pub record PlainRefuses (s : Settings) (level : ℕ) (inside : Bool) (r : Result (Unit {0}) Refusal) : Type 0 where
+  pub so : (answer : Paper) → on_small s (on_settings s level inside answer) ≡ behind r answer
 
 -- adding to what is known to be a sketch, or not (RULES: Plain engine): 4, then 1, then 2
 abbrev pub plain_add_when : Bool → Settings → ℕ → ℕ → Paper
@@ -36,3 +40,7 @@ plain_add_when known s lo hi = unless known not_one (on_small s (unless (in_rang
 
 unfoldable pub plain_add_on : Sketch → ℕ → ℕ → Paper
 plain_add_on k lo hi = plain_add_when (is_sketch k) k.settings lo hi
+
+-- the cells that a sample is taken of
+abbrev pub cells_of : Adding → Cells
+cells_of a = listed a.kept.now ∪ interval a.lo a.hi

@@ -5,8 +5,8 @@
 ghost use Rattle.std.specs.Prelude.{◌≡◌, cond, ◌≤◌};
 ghost use Rattle.rule.specs.Rule.{passes};
 ghost use Rattle.rule.specs.Samples.{range_count, next_hit};
-ghost use Rattle.rule.specs.Refusals.{answered, of_counted, of_found};
-ghost use Rattle.find.specs.Finding.{in_range, hits};
+ghost use Rattle.rule.specs.Refusals.{of_counted, of_found};
+ghost use Rattle.find.specs.Finding.{in_range};
 ghost use Rattle.sketch.specs.Sketches.{Sound, add};
 ghost use Rattle.sketch.specs.Calls.{Hands};
 ghost use Rattle.plain.specs.Plain.{limit, is_small, plain_count_on, plain_next_on, plain_add_on, PlainRefuses};
@@ -15,8 +15,7 @@ pub mod adding;
 
 use adding::{add_answer, fill};
 use rule::Settings;
-use rule::answers::{Answer, Counted, Found};
-use rule::refusals::{BAD_LEVEL, BAD_RANGE, BAD_SETTINGS};
+use rule::refusals::Refusal;
 use settle::Kept;
 use sketch::{Changed, PLACES, Sketch};
 
@@ -29,6 +28,9 @@ pub fn is_small(settings: Settings) -> bool
     settings.n <= LIMIT
 }
 
+// This test and the order below are this engine's own: of the first it takes the settings' test, the
+// hash and what a sketch is, as the rules have it, and nothing else.
+
 // lo..hi are cells, and lo is not above hi.
 fn in_range(settings: Settings, lo: u32, hi: u32) -> bool
     ensures { result ≡ in_range settings lo hi }
@@ -36,24 +38,24 @@ fn in_range(settings: Settings, lo: u32, hi: u32) -> bool
     (1 <= lo) & ((lo <= hi) & (hi <= settings.n))
 }
 
-// The number of the refusal of a count or of a next hit, 0 where there is none. `inside` says
-// whether the call's range is right.
-fn refusal(settings: Settings, level: u32, inside: bool) -> u32
+// The refusal of a count or of a next hit, where there is one. `inside` says whether the call's range
+// is right.
+fn refusal(settings: Settings, level: u32, inside: bool) -> Result<(), Refusal>
     ensures { PlainRefuses settings level inside result }
 {
     if !is_small(settings) {
-        return BAD_SETTINGS;
+        return Err(Refusal::Settings);
     }
     if !settings.good() {
-        return BAD_SETTINGS;
+        return Err(Refusal::Settings);
     }
     if !settings.has_level(level) {
-        return BAD_LEVEL;
+        return Err(Refusal::Level);
     }
     if !inside {
-        return BAD_RANGE;
+        return Err(Refusal::Range);
     }
-    0
+    Ok(())
 }
 
 // What a cell counts: 1 where it passes at the level, and otherwise 0.
@@ -69,50 +71,33 @@ fn count_each(settings: Settings, level: u32, lo: u32, hi: u32) -> u32
     ensures { result ≡ range_count settings level lo hi }
 {
     let mut many: u32 = 0;
-    let mut x = lo;
-    while x <= hi {
-        many = many + counts(settings, level, x);
-        x = x + 1;
+    for x in lo..=hi {
+        many += counts(settings, level, x);
     }
     many
 }
 
 // The first cell of from..last that passes: each is tested, until one does.
-fn first_of(settings: Settings, level: u32, from: u32, last: u32) -> Found
-    requires { last ≤ limit }
-    ensures { of_found result ≡ answered (hits (next_hit settings level from last)) }
+fn first_of(settings: Settings, level: u32, from: u32, last: u32) -> Option<u32>
+    ensures { result ≡ next_hit settings level from last }
 {
-    let mut x = from;
-    while x <= last {
-        if settings.passes(level, x) {
-            return Found::Cell(x);
-        }
-        x = x + 1;
-    }
-    Found::Nothing
+    (from..=last).find(|x| settings.passes(level, *x))
 }
 
 // How many cells of lo..hi pass at a level.
-pub fn count(settings: Settings, level: u32, lo: u32, hi: u32) -> Counted
+pub fn count(settings: Settings, level: u32, lo: u32, hi: u32) -> Result<u32, Refusal>
     ensures { of_counted result ≡ plain_count_on settings level lo hi }
 {
-    let number = refusal(settings, level, in_range(settings, lo, hi));
-    if number != 0 {
-        return Counted::Refused(number);
-    }
-    Counted::Count(count_each(settings, level, lo, hi))
+    refusal(settings, level, in_range(settings, lo, hi))?;
+    Ok(count_each(settings, level, lo, hi))
 }
 
 // The least cell from `from` up to n that passes at a level.
-pub fn next_hit(settings: Settings, level: u32, from: u32) -> Found
+pub fn next_hit(settings: Settings, level: u32, from: u32) -> Result<Option<u32>, Refusal>
     ensures { of_found result ≡ plain_next_on settings level from }
 {
-    let last = settings.n;
-    let number = refusal(settings, level, in_range(settings, from, last));
-    if number != 0 {
-        return Found::Refused(number);
-    }
-    first_of(settings, level, from, last)
+    refusal(settings, level, in_range(settings, from, settings.n))?;
+    Ok(first_of(settings, level, from, settings.n))
 }
 
 // What adding makes of a sketch where nothing refuses it.
@@ -136,20 +121,19 @@ fn added(sketch: Sketch, lo: u32, hi: u32) -> Sketch
 }
 
 // Adds lo..hi to a sketch, or hands it back as it was with a refusal.
-pub fn add(sketch: Sketch, lo: u32, hi: u32) -> Changed
+pub fn add(sketch: Sketch, lo: u32, hi: u32) -> Changed<Refusal>
     ensures { Hands (plain_add_on sketch lo hi) (add sketch lo hi) sketch result }
 {
-    let answer = add_answer(sketch.good(), sketch.settings, lo, hi);
-    match answer {
-        Answer::Done => {
+    match add_answer(sketch.good(), sketch.settings, lo, hi) {
+        Ok(()) => {
             let next = added(sketch, lo, hi);
             Changed {
-                answer: Answer::Done,
+                answer: Ok(()),
                 sketch: next,
             }
         }
-        Answer::Refused(number) => Changed {
-            answer: Answer::Refused(number),
+        Err(refusal) => Changed {
+            answer: Err(refusal),
             sketch,
         },
     }

@@ -1,26 +1,22 @@
 // Images that are torn or damaged, and what the reader answers to them.
-ghost use Rattle.std.specs.Prelude.{◌≡◌, ◌+◌, ◌%◌, ◌<◌, ◌≤◌, length};
+ghost use Rattle.std.specs.Prelude.{◌≡◌, ◌+◌, ◌%◌, ◌<◌, ◌≤◌, length, All};
 
-use crate::words::{print_taken, print_yes, text};
+use crate::words::{print_answer, yes_or_no};
 use crate::written;
 use sketch::Sketch;
 use std::io;
 
 fn all_zeros(k: Sketch) -> bool {
-    let zero = sketch::no_sketch();
-    sketch::order::same_settings(k.settings, zero.settings)
-        & ((k.level == 0) & ((k.count == 0) & rows::zeros(&k.cells)))
+    k == sketch::no_sketch()
 }
 
 // What the reader answers to these bytes, and what it hands back.
 fn answer(rt: &impl Print, bytes: &[u8]) -> io::Result<()> {
     let r = image::read(bytes);
-    let taken = r.taken;
-    text(rt, ": ")?;
-    print_taken(rt, taken)?;
-    text(rt, "; all zeros handed back: ")?;
-    print_yes(rt, all_zeros(r.sketch))?;
-    println!(rt)
+    print!(rt; ": ")?;
+    print_answer(rt, r.answer)?;
+    let zeros = all_zeros(r.sketch);
+    println!(rt; "; all zeros handed back: {}", yes_or_no(zeros))
 }
 
 fn first_bytes(rt: &impl Print, bytes: &[u8]) -> io::Result<()> {
@@ -28,40 +24,23 @@ fn first_bytes(rt: &impl Print, bytes: &[u8]) -> io::Result<()> {
     answer(rt, bytes)
 }
 
-fn flip(bytes: &mut [u8], at: usize)
-    requires { at < length bytes.old }
+// The bytes at these places are flipped.
+fn flipped(rt: &impl Print, mut full: [u8; 2560], places: &[usize]) -> io::Result<()>
+    requires { All (λ at. at < 2560) places.now }
 {
-    bytes[at] = bytes[at] ^ 255;
-}
-
-fn print_place(rt: &impl Print, at: usize) -> io::Result<()> {
-    print!(rt; "byte {at} (block {})", at / 512)
-}
-
-fn one_flipped(rt: &impl Print, mut full: [u8; 2560], at: usize) -> io::Result<()>
-    requires { at < 2560 }
-{
-    flip(&mut full, at);
-    print_place(rt, at)?;
-    text(rt, " flipped")?;
-    answer(rt, &full)
-}
-
-fn two_flipped(rt: &impl Print, mut full: [u8; 2560], at: usize, then: usize) -> io::Result<()>
-    requires { (at < 2560) × (then < 2560) }
-{
-    flip(&mut full, at);
-    flip(&mut full, then);
-    print_place(rt, at)?;
-    text(rt, " and ")?;
-    print_place(rt, then)?;
-    text(rt, " flipped")?;
+    let mut and = "";
+    for at in places {
+        full[*at] ^= 255;
+        print!(rt; "{and}byte {at} (block {})", *at / 512)?;
+        and = " and ";
+    }
+    print!(rt; " flipped")?;
     answer(rt, &full)
 }
 
 // The word at `at` says x, and the check of its block is right again.
-fn reseal(bytes: &mut [u8], at: usize, x: u32)
-    requires { (at + 2 ≤ length bytes.old) × (length bytes.old % 512 ≡ 0) × (x < 65536) }
+fn reseal(bytes: &mut [u8], at: usize, x: u16)
+    requires { (at + 2 ≤ length bytes.old) × (length bytes.old % 512 ≡ 0) }
 {
     let start = at / 512 * 512;
     let end = start + 512;
@@ -69,48 +48,29 @@ fn reseal(bytes: &mut [u8], at: usize, x: u32)
     block::seal(&mut bytes[start..end]);
 }
 
-fn one_changed(
+// Each of these words, the place and what it says, is resealed.
+fn changed<const N: usize>(
     rt: &impl Print,
     what: &str,
-    mut full: [u8; 2560],
-    at: usize,
-    x: u32,
+    mut image: [u8; N],
+    words: &[(usize, u16)],
 ) -> io::Result<()>
-    requires { (at + 2 ≤ 2560) × (x < 65536) }
+    requires { (N % 512 ≡ 0) × All (λ word. word.0 + 2 ≤ N) words.now }
 {
-    reseal(&mut full, at, x);
-    text(rt, what)?;
-    answer(rt, &full)
-}
-
-fn two_changed(
-    rt: &impl Print,
-    what: &str,
-    mut full: [u8; 2560],
-    at: usize,
-    x: u32,
-    then: usize,
-    y: u32,
-) -> io::Result<()>
-    requires { (at + 2 ≤ 2560) × (x < 65536) × (then + 2 ≤ 2560) × (y < 65536) }
-{
-    reseal(&mut full, at, x);
-    reseal(&mut full, then, y);
-    text(rt, what)?;
-    answer(rt, &full)
+    for (at, x) in words {
+        reseal(&mut image, *at, *x);
+    }
+    print!(rt; "{what}")?;
+    answer(rt, &image)
 }
 
 // 127 cells as 125 and 2, not as 126 and 1: cell 126 goes from block 1 to block 2.
 pub fn read_not_full(rt: &impl Print) -> io::Result<()> {
     let mut room = [0u8; 1536];
     written(seen::up_to(127), &mut room);
-    reseal(&mut room, 514, 125);
-    reseal(&mut room, 1016, 0);
-    reseal(&mut room, 1026, 2);
-    reseal(&mut room, 1028, 126);
-    reseal(&mut room, 1032, 127);
-    text(rt, "127 cells, 125 in block 1 and 2 in block 2")?;
-    answer(rt, &room)
+    let what = "127 cells, 125 in block 1 and 2 in block 2";
+    let words = [(514, 125), (1016, 0), (1026, 2), (1028, 126), (1032, 127)];
+    changed(rt, what, room, &words)
 }
 
 // A full image: five blocks.
@@ -135,65 +95,48 @@ pub fn read_torn(rt: &impl Print) -> io::Result<()> {
 
 // Wrong checks: in each block in turn, then in two.
 pub fn read_flipped(rt: &impl Print, full: [u8; 2560]) -> io::Result<()> {
-    one_flipped(rt, full, 0)?;
-    one_flipped(rt, full, 600)?;
-    one_flipped(rt, full, 1535)?;
-    one_flipped(rt, full, 1536)?;
-    one_flipped(rt, full, 2559)?;
-    two_flipped(rt, full, 600, 1600)?;
-    two_flipped(rt, full, 2100, 30)
+    flipped(rt, full, &[0])?;
+    flipped(rt, full, &[600])?;
+    flipped(rt, full, &[1535])?;
+    flipped(rt, full, &[1536])?;
+    flipped(rt, full, &[2559])?;
+    flipped(rt, full, &[600, 1600])?;
+    flipped(rt, full, &[2100, 30])
 }
 
 // Right checks, and something else that is wrong. A full image: n 200000, p 2000003, 504 cells at level 0.
 pub fn read_changed(rt: &impl Print, full: [u8; 2560]) -> io::Result<()> {
-    one_changed(rt, "the mark is POT2", full, 2, 12884)?;
-    one_changed(rt, "n is 200001, and p below 10n", full, 4, 3393)?;
-    one_changed(rt, "the capacity is 505", full, 20, 505)?;
-    one_changed(rt, "the capacity is 503", full, 20, 503)?;
-    one_changed(rt, "the level is 1, where not all cells pass", full, 22, 1)?;
-    one_changed(rt, "the level is 21, above the top", full, 22, 21)?;
-    one_changed(rt, "the number of cells is 503", full, 24, 503)?;
-    one_changed(
+    changed(rt, "the mark is POT2", full, &[(2, 12884)])?;
+    changed(rt, "n is 200001, and p below 10n", full, &[(4, 3393)])?;
+    changed(rt, "the capacity is 505", full, &[(20, 505)])?;
+    changed(rt, "the capacity is 503", full, &[(20, 503)])?;
+    changed(
+        rt,
+        "the level is 1, where not all cells pass",
+        full,
+        &[(22, 1)],
+    )?;
+    changed(rt, "the level is 21, above the top", full, &[(22, 21)])?;
+    changed(rt, "the number of cells is 503", full, &[(24, 503)])?;
+    changed(
         rt,
         "the number of cells is 378, one block less",
         full,
-        24,
-        378,
+        &[(24, 378)],
     )?;
-    one_changed(rt, "byte 26 is 1", full, 26, 1)?;
-    one_changed(rt, "block 2 says it is block 3", full, 1024, 3)?;
-    one_changed(rt, "block 1 says it holds 125 cells", full, 514, 125)?;
-    one_changed(rt, "the second cell is 1 again", full, 520, 1)?;
-    one_changed(rt, "the last cell is above n", full, 2554, 4)
+    changed(rt, "byte 26 is 1", full, &[(26, 1)])?;
+    changed(rt, "block 2 says it is block 3", full, &[(1024, 3)])?;
+    changed(rt, "block 1 says it holds 125 cells", full, &[(514, 125)])?;
+    changed(rt, "the second cell is 1 again", full, &[(520, 1)])?;
+    changed(rt, "the last cell is above n", full, &[(2554, 4)])
 }
 
 // Right checks again: a cell past the last one, and which of two faults is named.
 pub fn read_changed_twice(rt: &impl Print, full: [u8; 2560]) -> io::Result<()> {
-    two_changed(
-        rt,
-        "503 cells, and the last one is left over",
-        full,
-        24,
-        503,
-        2050,
-        125,
-    )?;
-    two_changed(
-        rt,
-        "the mark is POT2, and the capacity is 505",
-        full,
-        2,
-        12884,
-        20,
-        505,
-    )?;
-    two_changed(
-        rt,
-        "the capacity is 505, and block 1 says it holds 125 cells",
-        full,
-        20,
-        505,
-        514,
-        125,
-    )
+    let what = "503 cells, and the last one is left over";
+    changed(rt, what, full, &[(24, 503), (2050, 125)])?;
+    let what = "the mark is POT2, and the capacity is 505";
+    changed(rt, what, full, &[(2, 12884), (20, 505)])?;
+    let what = "the capacity is 505, and block 1 says it holds 125 cells";
+    changed(rt, what, full, &[(20, 505), (514, 125)])
 }

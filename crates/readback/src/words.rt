@@ -1,22 +1,17 @@
 // What the program says.
-use rule::answers::Taken;
+use rule::refusals::{ReadError, Refusal};
 use std::io;
 
-pub fn text(rt: &impl Print, what: &str) -> io::Result<()> {
-    print!(rt; "{what}")
+pub fn yes_or_no(yes: bool) -> &'static str {
+    if yes { "yes" } else { "no" }
 }
 
-pub fn number(rt: &impl Print, x: usize) -> io::Result<()> {
-    print!(rt; "{x}")
-}
-
-pub fn print_yes(rt: &impl Print, yes: bool) -> io::Result<()> {
-    if yes { text(rt, "yes") } else { text(rt, "no") }
-}
-
-pub fn print_taken(rt: &impl Print, taken: Taken) -> io::Result<()> {
-    match taken {
-        Taken::Done => text(rt, "accepted"),
-        Taken::Refused { number, place } => print!(rt; "refused {number}, block {place}"),
+pub fn print_answer(rt: &impl Print, answer: Result<(), ReadError>) -> io::Result<()> {
+    match answer {
+        Ok(()) => print!(rt; "accepted"),
+        Err(error) => {
+            let number = u32::from(Refusal::from(error));
+            print!(rt; "refused {number}, block {}", error.block())
+        }
     }
 }

@@ -5,13 +5,12 @@
 #![tactic(auto)]
 
 ghost use Rattle.std.specs.Prelude.{◌≡◌, [], ◌∷◌};
-ghost use Rattle.row.specs.Stretches.{within, first_bad, add_all, judged_at, row_when, row_on, AddsAll, row_changed, HandsRow};
-ghost use Rattle.rule.specs.Refusals.{is_answered, of_row};
+ghost use Rattle.row.specs.Stretches.{within, bad_place, add_all, judged_at, row_when, row_on, AddsAll, HandsRow};
+ghost use Rattle.rule.specs.Refusals.{of_row};
 
 use rule::Settings;
-use rule::answers::RowAnswer;
-use rule::refusals::{BAD_RANGE, NOT_ONE};
-use sketch::Sketch;
+use rule::refusals::RowError;
+use sketch::{Changed, Sketch};
 
 // The cells lo..hi.
 #[repr(C)]
@@ -21,19 +20,6 @@ pub struct Stretch {
     pub hi: u32,
 }
 
-// The answer, and the sketch handed back beside it.
-#[derive(Clone, Copy)]
-pub struct RowChanged {
-    pub answer: RowAnswer,
-    pub sketch: Sketch,
-}
-
-fn changed(answer: RowAnswer, sketch: Sketch) -> RowChanged
-    ensures { result ≡ row_changed answer sketch }
-{
-    RowChanged { answer, sketch }
-}
-
 // Is the stretch in range?
 fn is_in(settings: Settings, s: Stretch) -> bool
     ensures { result ≡ within settings s }
@@ -41,55 +27,32 @@ fn is_in(settings: Settings, s: Stretch) -> bool
     find::in_range(settings, s.lo, s.hi)
 }
 
-// The first place whose stretch isn't in range, or the row's length.
-fn first_bad(settings: Settings, row: &[Stretch]) -> usize
-    ensures { result ≡ first_bad settings row.now }
+// The first place whose stretch isn't in range, where there is one.
+fn first_bad(settings: Settings, row: &[Stretch]) -> Option<usize>
+    ensures { result ≡ bad_place settings row.now }
 {
-    let mut place: usize = 0;
-    while place < row.len() {
-        if !is_in(settings, row[place]) {
-            return place;
-        }
-        place += 1;
-    }
-    place
+    row.iter().position(|s| !is_in(settings, *s))
 }
 
 // In which order a row is refused, where its first bad place is known: it is said here, and nowhere
 // else.
-fn judged(known: bool, place: usize, count: usize) -> RowAnswer
-    ensures { of_row result ≡ judged_at known place count }
+fn judged(known: bool, bad: Option<usize>) -> Result<(), RowError>
+    ensures { of_row result ≡ judged_at known bad }
 {
     if !known {
-        return RowAnswer::Refused {
-            number: NOT_ONE,
-            place: 0,
-        };
+        return Err(RowError::NotOne);
     }
-    if place < count {
-        return RowAnswer::Refused {
-            number: BAD_RANGE,
-            place,
-        };
+    match bad {
+        Some(place) => Err(RowError::Range { place }),
+        None => Ok(()),
     }
-    RowAnswer::Done
 }
 
 // To adding a row, where it is known whether something with these settings is a sketch.
-pub fn row_answer(known: bool, settings: Settings, row: &[Stretch]) -> RowAnswer
+pub fn row_answer(known: bool, settings: Settings, row: &[Stretch]) -> Result<(), RowError>
     ensures { of_row result ≡ row_when known settings row.now }
 {
-    let place = first_bad(settings, row);
-    judged(known, place, row.len())
-}
-
-pub fn is_done(answer: RowAnswer) -> bool
-    ensures { result ≡ is_answered (of_row answer) }
-{
-    match answer {
-        RowAnswer::Done => true,
-        RowAnswer::Refused { .. } => false,
-    }
+    judged(known, first_bad(settings, row))
 }
 
 // Adds each in turn to what is known to be a sketch.
@@ -98,28 +61,30 @@ fn add_each(sketch: Sketch, row: &[Stretch]) -> Sketch
     ensures { result ≡ add_all sketch row.now }
 {
     let mut k = sketch;
-    let mut i: usize = 0;
-    while i < row.len() {
-        let s = row[i];
+    for s in row {
         k = k.added(s.lo, s.hi);
-        i += 1;
     }
     k
 }
 
 // The sketch is tested once, and the row is looked at before anything is added.
-pub fn add_row(sketch: Sketch, row: &[Stretch]) -> RowChanged
+pub fn add_row(sketch: Sketch, row: &[Stretch]) -> Changed<RowError>
     ensures { HandsRow (row_on sketch row.now) (add_all sketch row.now) sketch result }
 {
-    let answer = row_answer(sketch.good(), sketch.settings, row);
-    if is_done(answer) {
-        return changed(answer, add_each(sketch, row));
+    match row_answer(sketch.good(), sketch.settings, row) {
+        Ok(()) => Changed {
+            answer: Ok(()),
+            sketch: add_each(sketch, row),
+        },
+        Err(error) => Changed {
+            answer: Err(error),
+            sketch,
+        },
     }
-    changed(answer, sketch)
 }
 
 // Two stretches by value, for callers that have no row to lend: a local row is lent here.
-pub fn add_two(sketch: Sketch, first: Stretch, second: Stretch) -> RowChanged
+pub fn add_two(sketch: Sketch, first: Stretch, second: Stretch) -> Changed<RowError>
     ensures { HandsRow (row_on sketch (first ∷ second ∷ [])) (add_all sketch (first ∷ second ∷ [])) sketch result }
 {
     let row = [first, second];

@@ -1,11 +1,10 @@
--- The turns and the end of the walks over a row that test it or store what passes, a test of the hash that says which cells pass, and a search by halving.
---     same_settings_lem, hasher_ready     the hasher of a walk
+-- The turns and the end of the walks over a row that test it or store what passes, a test of the hash that says which cells pass, and what a search by halving finds.
 --     passes_test, passes_on, passes_off      a test of the hash
 --     passing-room, passing_on, passing_off       the room and the turn of `store_passing` and `keep_passing`
 --     test_on, test_end       the walks of `in_order`, `all_pass` and `zeros`
 --     none_seen      what `zeros` has seen
 --     all-pass-zero      at level 0 every cell passes
---     Parted, parted_start, parted_up, parted_down, parted_end      the search of `below`
+--     parted      what the search of `below` found
 -- Assumes nothing.
 use Prim.Native.Nat.{ℕ, zero, suc, ◌+◌, ◌<◌, ◌≤◌}
 use mathlib.Core.Path.{◌≡◌, refl, sym, ap, ◌∙◌}
@@ -14,56 +13,32 @@ use mathlib.Core.Logic.{⊎_elim}
 use mathlib.Core.List.{List, [], ◌∷◌}
 use native.Mathlib.Omega.{arith}
 use lib.Bits.{bit_or, or_zero_l, or_add_and, and_le_r}
-use lib.Dec.{ltb, eqb}
+use lib.Dec.{eqb}
 use lib.ListN.{length, take, drop, get_or, set, drop_of_length-le}
-use borrow.Author.Tests.{lt-ltb, le-ltb, eqb-true, eq-eqb}
+use borrow.Author.Tests.{eqb-true, eq-eqb}
+use Rattle.std.specs.List.Sorted.{IsPartitionPoint}
 use Rattle.lists.specs.Lists.{filter}
 use Rattle.lists.specs.Rows.{Stored}
 use Rattle.lists.proofs.Tests.{tested}
 use Rattle.lists.proofs.Steps.{next, filter_on, filter_off, filter-room}
 use Rattle.lists.proofs.Stores.{stored_more}
 use Rattle.rule.specs.declared.Settings.{Settings}
-use Rattle.rule.specs.declared.Hasher.{Hasher}
-use Rattle.rule.specs.Rule.{Good, hash, Ready, hasher_of, region, passes}
-use Rattle.rule.proofs.Facts.{ready}
+use Rattle.rule.specs.Cells.{Cells}
+use Rattle.rule.specs.Rule.{passes}
 use Rattle.rule.proofs.Passing.{passes-zero}
-use Rattle.rows.specs.Walked.{cells_below, Ascending, all_in}
+use Rattle.rows.specs.Walked.{all_in}
 
--- a walk with the hasher of the settings
-module _ {s : Settings} {hasher : Hasher} (made : hasher ≡ hasher_of s) where
-  pub same_settings_lem : hasher.settings ≡ s
-  same_settings_lem = ap (λ h. h.settings) made
+-- A walk over l that stores the cells of a set. x was read as its cell i, from l itself or from what l has become since.
+module _ (X : Cells) (l : List ℕ) (i : ℕ) (within : i < length l) {x : ℕ} (read : x ≡ get_or l i 0) {row : List ℕ} {k place : ℕ} {after : List ℕ}
+    (g : Stored row k (filter X (take i l)) place after) where
+  pub passing-room : X x ≡ true → place < k + length (filter X l)
+  passing-room t = omega (arith, g.next_place, filter-room X l i within (ap X (sym read) ∙ t))
 
-  pub hasher_ready : Good s → Ready hasher
-  hasher_ready g = rw made (ready s g)
+  pub passing_on : X x ≡ true → place < length row → Stored row k (filter X (take (i + 1) l)) (place + 1) (set after place x)
+  passing_on t room = rw (filter_on X l i within (ap X (sym read) ∙ t), ← read) (stored_more g x room)
 
-  module _ (level x : ℕ) {size h : ℕ} (es : size ≡ region s level) (eh : h ≡ hash hasher.settings x) where
-    pub passes_test : ltb h size ≡ passes hasher.settings level x
-    unfolding passes
-    passes_test = rw (eh, es, same_settings_lem)
-
-    pub passes_on : h < size → passes hasher.settings level x ≡ true
-    passes_on l = sym passes_test ∙ lt-ltb h size l
-
-    pub passes_off : size ≤ h → passes hasher.settings level x ≡ false
-    passes_off l = sym passes_test ∙ le-ltb h size l
-
-    -- A walk over l that stores the cells that pass. x was read as its cell i, from l itself or from what l has become since.
-    module _ (l : List ℕ) (i : ℕ) (within : i < length l) (read : x ≡ get_or l i 0) {row : List ℕ} {k place : ℕ} {after : List ℕ}
-        (g : Stored row k (filter (passes hasher.settings level) (take i l)) place after) where
-      pub passing-room : h < size → place < k + length (filter (passes s level) l)
-      passing-room t =
-          let X = passes hasher.settings level in
-          let r : place < k + length (filter X l) = omega (arith, g.next_place, filter-room X l i within (ap X (sym read) ∙ passes_on t)) in
-          rw same_settings_lem at r
-
-      pub passing_on : h < size → place < length row → Stored row k (filter (passes hasher.settings level) (take (i + 1) l)) (place + 1) (set after place x)
-      passing_on t room =
-          let X = passes hasher.settings level in
-          rw (filter_on X l i within (ap X (sym read) ∙ passes_on t), ← read) (stored_more g x room)
-
-      pub passing_off : size ≤ h → Stored row k (filter (passes hasher.settings level) (take (i + 1) l)) place after
-      passing_off t = let X = passes hasher.settings level in rw (filter_off X l i within (ap X (sym read) ∙ passes_off t)) g
+  pub passing_off : X x ≡ false → Stored row k (filter X (take (i + 1) l)) place after
+  passing_off t = rw (filter_off X l i within (ap X (sym read) ∙ t)) g
 
 -- A walk that tests every cell: t is the test so far, f what is to hold of the cells from i on, and g of those after cell i.
 module _ (l : List ℕ) (i : ℕ) (t r : Bool) (f : List ℕ → Bool) (e : (t && f (drop i l)) ≡ r) where
@@ -94,43 +69,12 @@ pub all-pass-zero : (s : Settings) → 0 < s.p → (xs : List ℕ) → all_in (p
 all-pass-zero s h [] = refl
 all-pass-zero s h (x ∷ xs) = rw (passes-zero s x h) (all-pass-zero s h xs)
 
--- the cells before lo are below x, and those from hi on are not
-pub record Parted (row : List ℕ) (x lo hi : ℕ) : Type 0 where
-  pub order : lo ≤ hi
-  pub within : hi ≤ length row
-  pub front : (k : ℕ) → k < lo → get_or row k 0 < x
-  pub back : (k : ℕ) → hi ≤ k → k < length row → x ≤ get_or row k 0
-
-pub parted_start : (row : List ℕ) (x : ℕ) → Parted row x 0 (length row)
-parted_start row x = record { order = omega arith; within = omega arith; front = λ k h. absurd (omega arith); back = λ k h g. absurd (omega arith) }
-
-module _ {row : List ℕ} {x lo hi : ℕ} (up : Ascending row) (g : Parted row x lo hi) (m : ℕ) (h : lo ≤ m) (w : m < hi) where
-  pub parted_up : get_or row m 0 < x → Parted row x (m + 1) hi
-  parted_up t =
-      record { order = omega arith; within = g.within; front = λ k l. omega (arith, up k m (omega arith) (omega (arith, g.within))); back = g.back }
-
-  pub parted_down : x ≤ get_or row m 0 → Parted row x lo m
-  parted_down t =
-      record { order = h; within = omega (arith, g.within); front = g.front; back = λ k l r. omega (arith, up m k l r) }
-
--- where the two meet, they are as many as the cells below x
-pub parted_end : (row : List ℕ) (x n : ℕ) → Parted row x n n → n ≡ length (filter (cells_below x) row)
-parted_end [] x n g = omega (arith, g.within)
-parted_end (y ∷ ys) x zero g =
-    let rest : Parted ys x zero zero = record {
-      order = omega arith;
-      within = omega arith;
-      front = λ k h. absurd (omega arith);
-      back = λ k h w. g.back
-          (suc k) (omega arith) (omega arith);
-    } in
-    rw (le-ltb y x (g.back zero (omega arith) (omega arith))) (parted_end ys x zero rest)
-parted_end (y ∷ ys) x (suc n) g =
-    let rest : Parted ys x n n = record {
-      order = omega arith;
-      within = omega (arith, g.within);
-      front = λ k h. g.front (suc k)
-          (omega arith);
-      back = λ k h w. g.back (suc k) (omega arith) (omega arith);
-    } in
-    rw (lt-ltb y x (g.front zero (omega arith))) (ap suc (parted_end ys x n rest))
+-- where the first n cells of a row are in a set and the others are not, n is how many are
+pub parted : (X : Cells) (row : List ℕ) (n : ℕ) → n ≤ length row → IsPartitionPoint (λ y. X y ≡ true) (λ y. X y ≡ false) row n → n ≡ length (filter X row)
+parted X [] n w g = omega arith
+parted X (y ∷ ys) zero w g =
+    rw (g.1 0 0 (omega arith) (omega arith))
+    (parted X ys zero (omega arith) (λ k d l h. absurd (omega arith), λ k d l h. g.1 (suc k) d (omega arith) (omega arith)))
+parted X (y ∷ ys) (suc n) w g =
+    rw (g.0 0 0 (omega arith) (omega arith))
+    (ap suc (parted X ys n (omega arith) (λ k d l h. g.0 (suc k) d (omega arith) (omega arith), λ k d l h. g.1 (suc k) d (omega arith) (omega arith))))

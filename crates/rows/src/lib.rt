@@ -1,4 +1,4 @@
-// Walks over rows of cells that test, count and search: one loop each.
+// Walks over rows of cells that test, count and search.
 #![tactic(auto)]
 
 ghost use Rattle.std.specs.Prelude.{◌≡◌, true, ◌+◌, ◌-◌, length};
@@ -7,7 +7,10 @@ ghost use Rattle.lists.specs.Rows.{all_zero};
 ghost use Rattle.rule.specs.Rule.{Good, passes};
 ghost use Rattle.rows.specs.Walked.{cells_below, Ascending, all_in, in_order, rises_from};
 
+pub mod sieve;
+
 use rule::Settings;
+use sieve::Sieve;
 
 // The cells of the row rise strictly from above 0, and each is at most n and passes at the level.
 // At level 0 every cell passes, and no hash is asked for.
@@ -30,12 +33,9 @@ fn in_order(n: u32, row: &[u32]) -> bool
 {
     let mut all = true;
     let mut low: u32 = 0;
-    let mut i: usize = 0;
-    while i < row.len() {
-        let x = row[i];
+    for &x in row {
         all = all & ((low < x) & (x <= n));
         low = x;
-        i = i + 1;
     }
     all
 }
@@ -45,13 +45,10 @@ fn all_pass(settings: Settings, level: u32, row: &[u32]) -> bool
     requires { Good settings }
     ensures { result ≡ all_in (passes settings level) row.now }
 {
-    let size = settings.region(level);
-    let hasher = settings.hasher();
+    let sieve = Sieve::of(settings, level);
     let mut all = true;
-    let mut i: usize = 0;
-    while i < row.len() {
-        all = all & (hasher.hash(row[i]) < size);
-        i = i + 1;
+    for &x in row {
+        all = all & sieve.passes(x);
     }
     all
 }
@@ -60,31 +57,18 @@ pub fn zeros(row: &[u32]) -> bool
     ensures { result ≡ all_zero row.now }
 {
     let mut seen: u32 = 0;
-    let mut i: usize = 0;
-    while i < row.len() {
-        seen = seen | row[i];
-        i = i + 1;
+    for &x in row {
+        seen = seen | x;
     }
     seen == 0
 }
 
-// How many cells of a rising row are below x, by halving: the cells before `lo` are below x, those
-// from `hi` on are not.
+// How many cells of a rising row are below x, by halving.
 pub fn below(row: &[u32], x: u32) -> usize
     requires { Ascending row.now }
     ensures { result ≡ length (filter (cells_below x) row.now) }
 {
-    let mut lo: usize = 0;
-    let mut hi = row.len();
-    while lo < hi {
-        let m = (lo + hi) / 2;
-        if row[m] < x {
-            lo = m + 1;
-        } else {
-            hi = m;
-        }
-    }
-    lo
+    row.partition_point(|&y| y < x)
 }
 
 // How many cells of the row pass at the level.
@@ -92,14 +76,10 @@ pub fn count_passing(settings: Settings, level: u32, row: &[u32]) -> usize
     requires { Good settings }
     ensures { result ≡ length (filter (passes settings level) row.now) }
 {
-    let size = settings.region(level);
-    let hasher = settings.hasher();
+    let sieve = Sieve::of(settings, level);
     let mut many: usize = 0;
-    let mut i: usize = 0;
-    while i < row.len() {
-        let x = row[i];
-        i = i + 1;
-        if hasher.hash(x) < size {
+    for &x in row {
+        if sieve.passes(x) {
             many = many + 1;
         }
     }

@@ -1,17 +1,11 @@
 -- The numbers of the refusals, and what a call answers, in their terms (RULES: Refusals). Assumes nothing: these are definitions.
-use Rattle.std.specs.Prelude.{ℕ, Bool, true, false, List, [], ◌∷◌}
-use Rattle.rule.specs.declared.answers.Answer.{Answer}
-use Rattle.rule.specs.declared.answers.Answer.TheVariants as answer
-use Rattle.rule.specs.declared.answers.Counted.{Counted}
-use Rattle.rule.specs.declared.answers.Counted.TheVariants as counted
-use Rattle.rule.specs.declared.answers.Found.{Found}
-use Rattle.rule.specs.declared.answers.Found.TheVariants as found
-use Rattle.rule.specs.declared.answers.Written.{Written}
-use Rattle.rule.specs.declared.answers.Written.TheVariants as written
-use Rattle.rule.specs.declared.answers.Taken.{Taken}
-use Rattle.rule.specs.declared.answers.Taken.TheVariants as taken
-use Rattle.rule.specs.declared.answers.RowAnswer.{RowAnswer}
-use Rattle.rule.specs.declared.answers.RowAnswer.TheVariants as row
+use Rattle.std.specs.Prelude.{ℕ, Bool, true, false, List, [], ◌∷◌, Option, None, Some, Result, Ok, Err}
+use Rattle.rule.specs.declared.refusals.Refusal.{Refusal}
+use Rattle.rule.specs.declared.refusals.Refusal.TheVariants.{Settings, Range, Level, NotOne, Unequal, NoRoom, Check, Image, Line}
+use Rattle.rule.specs.declared.refusals.ReadError.{ReadError}
+use Rattle.rule.specs.declared.refusals.ReadError.TheVariants as read
+use Rattle.rule.specs.declared.refusals.RowError.{RowError}
+use Rattle.rule.specs.declared.refusals.RowError.TheVariants as row
 
 -- a setting outside its rule
 abbrev pub bad_settings : ℕ
@@ -59,37 +53,75 @@ pub data Outcome (Told : Type 0) : Type 0 where
 abbrev pub Paper : Type 0
 Paper = Outcome (List ℕ)
 
--- it is answered, whatever it tells
-abbrev pub is_answered : {Told : Type 0} → Outcome Told → Bool
-is_answered (answered told) = true
-is_answered (refused number place) = false
+-- the number of each cause
+abbrev pub number_of : Refusal → ℕ
+number_of Settings = bad_settings
+number_of Range = bad_range
+number_of Level = bad_level
+number_of NotOne = not_one
+number_of Unequal = unequal
+number_of NoRoom = no_room
+number_of Check = bad_check
+number_of Image = bad_image
+number_of Line = bad_line
 
--- Each case of each answer's enum. The promises are put through these.
+-- the cause that the image reader names, and its block
+abbrev pub of_read : ReadError → Refusal
+of_read read.Settings = Settings
+of_read (read.Check block) = Check
+of_read read.Image = Image
 
-abbrev pub of_answer : Answer → Paper
-of_answer answer.Done = answered []
-of_answer (answer.Refused number) = refused number 0
+abbrev pub block_of : ReadError → ℕ
+block_of read.Settings = 0
+block_of (read.Check block) = block
+block_of read.Image = 0
 
-abbrev pub of_counted : Counted → Paper
-of_counted (counted.Count v) = answered (v ∷ [])
-of_counted (counted.Refused number) = refused number 0
+-- the cause that a row of stretches names, and its place
+abbrev pub of_stretch : RowError → Refusal
+of_stretch row.NotOne = NotOne
+of_stretch (row.Range place) = Range
 
-abbrev pub of_found : Found → Paper
-of_found (found.Cell x) = answered (x ∷ [])
-of_found found.Nothing = answered []
-of_found (found.Refused number) = refused number 0
+abbrev pub place_of : RowError → ℕ
+place_of row.NotOne = 0
+place_of (row.Range place) = place
 
-abbrev pub of_written : Written → Paper
-of_written (written.Length v) = answered (v ∷ [])
-of_written (written.Refused number) = refused number 0
+-- Each case of each call's answer. The promises are put through these.
 
-abbrev pub of_taken : Taken → Paper
-of_taken taken.Done = answered []
-of_taken (taken.Refused number place) = refused number place
+-- what a call tells by its value, or its refusal, which has no place
+abbrev pub told_by : {Value : Type 0} → (Value → List ℕ) → Result Value Refusal → Paper
+told_by tells (Ok value) = answered (tells value)
+told_by tells (Err refusal) = refused (number_of refusal) 0
 
-abbrev pub of_row : RowAnswer → Paper
-of_row row.Done = answered []
-of_row (row.Refused number place) = refused number place
+-- opening, adding, merging: done
+abbrev pub of_answer : Result (Unit {0}) Refusal → Paper
+of_answer r = told_by (λ done. []) r
+
+-- the range count
+abbrev pub of_counted : Result ℕ Refusal → Paper
+of_counted r = told_by (λ count. count ∷ []) r
+
+-- a hit as the values of an answer
+abbrev pub hits : Option ℕ → List ℕ
+hits None = []
+hits (Some x) = x ∷ []
+
+-- the next hit, and a step of the walker
+abbrev pub of_found : Result (Option ℕ) Refusal → Paper
+of_found r = told_by hits r
+
+-- the image writer: the image's length
+abbrev pub of_written : Result ℕ Refusal → Paper
+of_written r = told_by (λ length. length ∷ []) r
+
+-- the image reader
+abbrev pub of_taken : Result (Unit {0}) ReadError → Paper
+of_taken (Ok done) = answered []
+of_taken (Err error) = refused (number_of (of_read error)) (block_of error)
+
+-- a row of stretches
+abbrev pub of_row : Result (Unit {0}) RowError → Paper
+of_row (Ok done) = answered []
+of_row (Err error) = refused (number_of (of_stretch error)) (place_of error)
 
 -- the answer where the test holds, and otherwise the refusal of this number with this place
 abbrev pub unless_at : {Told : Type 0} → Bool → ℕ → ℕ → Outcome Told → Outcome Told

@@ -1,7 +1,6 @@
 -- Of a set of cells: its sample at a level, the lowest level at which it fits; of a range: how many pass, and the first. Assumes nothing: these are
 -- definitions.
-use Rattle.std.specs.Prelude.{ℕ, ◌-◌, Bool, ◌&&◌, List, [], ◌∷◌, leb, length}
-use Rattle.std.proofs.Math.Option.{Option, some, none}
+use Rattle.std.specs.Prelude.{ℕ, ◌-◌, Bool, ◌&&◌, List, [], ◌∷◌, leb, length, Option, None, Some}
 use Rattle.lists.specs.Lists.{filter, range}
 use Rattle.lists.specs.Searches.{least}
 use Rattle.rule.specs.declared.Settings.{Settings}
@@ -29,8 +28,8 @@ unfoldable pub range_count : Settings → ℕ → ℕ → ℕ → ℕ
 range_count s level lo hi = length (filter (passes s level) (range lo hi))
 
 abbrev pub first : List ℕ → Option ℕ
-first [] = none
-first (x ∷ xs) = some x
+first [] = None
+first (x ∷ xs) = Some x
 
 -- the first cell of lo..hi that passes (RULES: Next hit)
 unfoldable pub next_hit : Settings → ℕ → ℕ → ℕ → Option ℕ

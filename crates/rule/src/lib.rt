@@ -4,7 +4,6 @@
 ghost use Rattle.std.specs.Prelude.{◌≡◌, ℕ, ◌+◌, ◌-◌, ◌^◌, ◌%◌, ◌<◌, ◌≤◌, min, leb};
 ghost use Rattle.rule.specs.Rule.{no_settings, Good, common_divisor, is_good, hash, Ready, hasher_of, region, passes, top};
 
-pub mod answers;
 pub mod refusals;
 
 // The greatest n, and the greatest capacity, which is how many places a sketch has. Contracts and
@@ -16,7 +15,7 @@ pub const GREATEST_CAPACITY: u32 = 504;
 // A rounded fraction has 32 binary places.
 const ONE: u64 = 4294967296;
 
-#[derive(Clone, Copy)]
+#[derive(Clone, Copy, PartialEq, Eq)]
 pub struct Settings {
     pub n: u32,
     pub p: u32,
@@ -34,26 +33,6 @@ pub struct Hasher {
     pub start: u32,
 }
 
-fn wide(x: u32) -> u64
-    ensures { (result ≡ x) × (x < 2 ^ 32) }
-{
-    x as u64
-}
-
-// The lesser of two numbers, and how far they lie apart: functions of their own, so that they
-// compile to selections and not to branches that can't be foretold.
-pub fn lesser(x: u32, y: u32) -> u32
-    ensures { result ≡ min x y }
-{
-    if x < y { x } else { y }
-}
-
-fn apart(x: u32, y: u32) -> u32
-    ensures { result ≡ (x - y) + (y - x) }
-{
-    if x < y { y - x } else { x - y }
-}
-
 // The greatest common divisor of two odd numbers, without a division. A common divisor is odd, so
 // it divides the difference with its halvings taken out. There are as many of these as x and y
 // have equal lowest bits, so they are counted beside the subtraction, not after it.
@@ -65,8 +44,8 @@ fn odd_divisor(a: u32, p: u32) -> u32
     let mut y = p;
     while x != y {
         let equal = u32::trailing_zeros(x ^ y);
-        let low = lesser(x, y);
-        x = apart(x, y) >> equal;
+        let low = x.min(y);
+        x = x.abs_diff(y) >> equal;
         y = low;
     }
     x
@@ -83,7 +62,7 @@ pub fn common_divisor(a: u32, p: u32) -> u32
     } else {
         let i = u32::trailing_zeros(a);
         let j = u32::trailing_zeros(p);
-        odd_divisor(a >> i, p >> j) << lesser(i, j)
+        odd_divisor(a >> i, p >> j) << i.min(j)
     }
 }
 
@@ -105,8 +84,8 @@ impl Settings {
     pub fn good(self) -> bool
         ensures { result ≡ is_good self }
     {
-        let n = wide(self.n);
-        let p = wide(self.p);
+        let n = u64::from(self.n);
+        let p = u64::from(self.p);
         (1 <= self.n)
             & ((self.n <= GREATEST_N)
                 & ((10 * n <= p)
@@ -124,10 +103,10 @@ impl Settings {
     pub fn hash(self, x: u32) -> u64
         ensures { result ≡ hash self x }
     {
-        let a = wide(self.a);
-        let b = wide(self.b);
-        let p = wide(self.p);
-        let y = wide(x);
+        let a = u64::from(self.a);
+        let b = u64::from(self.b);
+        let p = u64::from(self.p);
+        let y = u64::from(x);
         let whole = a * y + b;
         if p == 0 {
             return whole;
@@ -140,9 +119,9 @@ impl Settings {
         requires { Good self }
         ensures { result ≡ hasher_of self }
     {
-        let p = wide(self.p);
-        let slope = wide(self.a) * ONE / p;
-        let start = wide(self.b) * ONE / p;
+        let p = u64::from(self.p);
+        let slope = u64::from(self.a) * ONE / p;
+        let start = u64::from(self.b) * ONE / p;
         Hasher {
             settings: self,
             slope: slope as u32,
@@ -160,7 +139,7 @@ impl Settings {
     pub fn passes(self, level: u32, x: u32) -> bool
         ensures { result ≡ passes self level x }
     {
-        self.hash(x) < wide(self.region(level))
+        self.hash(x) < u64::from(self.region(level))
     }
 
     // The top: the place of the highest bit of p that is set.
@@ -189,10 +168,10 @@ impl Hasher {
         requires { Ready self }
         ensures { result ≡ hash self.settings x }
     {
-        let cell = wide(x);
-        let p = wide(self.settings.p);
-        let q = (wide(self.slope) * cell + wide(self.start)) >> 32;
-        let left = wide(self.settings.a) * cell + wide(self.settings.b) - q * p;
+        let cell = u64::from(x);
+        let p = u64::from(self.settings.p);
+        let q = (u64::from(self.slope) * cell + u64::from(self.start)) >> 32;
+        let left = u64::from(self.settings.a) * cell + u64::from(self.settings.b) - q * p;
         let over = (left + (8589934592 - p)) >> 33;
         (left - over * p) as u32
     }

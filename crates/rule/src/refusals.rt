@@ -1,28 +1,106 @@
-// The numbers of the refusals; specs/Refusals.antt names them in the contracts.
+// Why a call refuses. specs/Refusals.antt gives each cause its number, and its place where it has one (RULES: Refusals).
+ghost use Rattle.std.specs.Prelude.{◌≡◌};
+ghost use Rattle.rule.specs.Refusals.{number_of, of_read, block_of, of_stretch, place_of};
 
-// A setting outside its rule.
-pub const BAD_SETTINGS: u32 = 1;
+#[derive(Clone, Copy, PartialEq, Eq)]
+pub enum Refusal {
+    // A setting outside its rule.
+    Settings,
+    // lo or from below 1, hi or from above n, or lo above hi.
+    Range,
+    // A level above the top.
+    Level,
+    // Not a sketch or not a walker, or none opened yet.
+    NotOne,
+    // Two sketches with a setting unequal.
+    Unequal,
+    // Room shorter than the image.
+    NoRoom,
+    // A block's check is wrong.
+    Check,
+    // Any other fault of an image.
+    Image,
+    // A program line of no known shape.
+    Line,
+}
 
-// lo or from below 1, hi or from above n, or lo above hi.
-pub const BAD_RANGE: u32 = 2;
+// The number of a refusal.
+impl From<Refusal> for u32 {
+    ghost from_gives = { λ refusal number. number ≡ number_of refusal };
 
-// A level above the top.
-pub const BAD_LEVEL: u32 = 3;
+    fn from(refusal: Refusal) -> u32 {
+        match refusal {
+            Refusal::Settings => 1,
+            Refusal::Range => 2,
+            Refusal::Level => 3,
+            Refusal::NotOne => 4,
+            Refusal::Unequal => 5,
+            Refusal::NoRoom => 6,
+            Refusal::Check => 7,
+            Refusal::Image => 8,
+            Refusal::Line => 9,
+        }
+    }
+}
 
-// Not a sketch or not a walker, or none opened yet.
-pub const NOT_ONE: u32 = 4;
+// Why the image reader refuses: a wrong check has its block.
+#[derive(Clone, Copy, PartialEq, Eq)]
+pub enum ReadError {
+    Settings,
+    Check { block: u32 },
+    Image,
+}
 
-// Two sketches with a setting unequal.
-pub const UNEQUAL: u32 = 5;
+impl From<ReadError> for Refusal {
+    ghost from_gives = { λ error refusal. refusal ≡ of_read error };
 
-// Room shorter than the image.
-pub const NO_ROOM: u32 = 6;
+    fn from(error: ReadError) -> Refusal {
+        match error {
+            ReadError::Settings => Refusal::Settings,
+            ReadError::Check { .. } => Refusal::Check,
+            ReadError::Image => Refusal::Image,
+        }
+    }
+}
 
-// A block's check is wrong.
-pub const BAD_CHECK: u32 = 7;
+impl ReadError {
+    // The block of a wrong check, 0 elsewhere.
+    pub fn block(self) -> u32
+        ensures { result ≡ block_of self }
+    {
+        match self {
+            ReadError::Check { block } => block,
+            ReadError::Settings | ReadError::Image => 0,
+        }
+    }
+}
 
-// Any other fault of an image.
-pub const BAD_IMAGE: u32 = 8;
+// Why a row of stretches is refused: a range has its place, that of the first bad stretch.
+#[derive(Clone, Copy, PartialEq, Eq)]
+pub enum RowError {
+    NotOne,
+    Range { place: usize },
+}
 
-// A program line of no known shape.
-pub const BAD_LINE: u32 = 9;
+impl From<RowError> for Refusal {
+    ghost from_gives = { λ error refusal. refusal ≡ of_stretch error };
+
+    fn from(error: RowError) -> Refusal {
+        match error {
+            RowError::NotOne => Refusal::NotOne,
+            RowError::Range { .. } => Refusal::Range,
+        }
+    }
+}
+
+impl RowError {
+    // The place of the first bad stretch, 0 elsewhere.
+    pub fn place(self) -> usize
+        ensures { result ≡ place_of self }
+    {
+        match self {
+            RowError::NotOne => 0,
+            RowError::Range { place } => place,
+        }
+    }
+}

@@ -10,6 +10,7 @@ use sketch::Sketch;
 
 // The sketch that saw 1..last. Where last is 0 nothing was seen: the stretch is refused, and the sketch
 // comes back as it was opened.
+#[tactic(auto, unfolding(crate::specs::Seen::up_to))]
 pub fn up_to(last: u32) -> Sketch
     ensures { result ≡ up_to last }
 {
@@ -20,7 +21,6 @@ pub fn up_to(last: u32) -> Sketch
         b: 89,
         capacity: 504,
     });
-    let k = opened.sketch;
-    let added = k.add(1, last);
+    let added = opened.sketch.add(1, last);
     added.sketch
 }

@@ -22,7 +22,8 @@ use Rattle.rule.specs.Rule.{passes}
 use Rattle.rule.specs.Samples.{sample, fits, range_count}
 use Rattle.rule.proofs.Samples.{in_grid, listed-sample, sample-rises}
 use Rattle.find.proofs.Checks.{and_parts}
-use Rattle.settle.specs.Settling.{all_of, Around, Present}
+use Rattle.settle.specs.Around.{all_of, Around}
+use Rattle.settle.specs.Settling.{Present}
 
 -- the row before lo, the cells of lo..hi that pass at the level, the row after hi
 unfoldable pub between : Settings → ℕ → List ℕ → List ℕ → ℕ → ℕ → List ℕ

@@ -4,6 +4,7 @@
 --     cut_present      the two parts stand around the range, and all their cells pass
 --     cut_all          with the range they are all the cells
 --     cut_same         where no more of the range pass than are kept there, nothing is added
+--     range_adds, range_cut     a range that was tested, and where it cuts
 --     row_sized, cut_keeps, none_keeps     so the row is what is kept, as it stands
 -- Assumes nothing.
 use mathlib.Core.Path.{◌≡◌, refl, sym, ap, ◌∙◌, fun_ext}
@@ -27,11 +28,13 @@ use Rattle.rule.specs.Cells.{Cells, ◌∪◌, interval}
 use Rattle.rule.specs.Rule.{passes}
 use Rattle.rule.specs.Samples.{sample, range_count}
 use Rattle.rule.proofs.Samples.{in_grid, listed-sample, sample-rises, few-fits, lowest_now}
-use Rattle.find.proofs.Checks.{and_parts}
+use Rattle.find.proofs.Checks.{and_parts, range_facts}
 use Rattle.rows.specs.Walked.{cells_below}
 use Rattle.rows.proofs.Facts.{below_splits}
 use Rattle.settle.specs.declared.Kept.{Kept}
-use Rattle.settle.specs.Settling.{KeptAt, AddsTo, CutAt, kept_in, KeptRow, Keeps, all_of, Present}
+use Rattle.find.specs.Finding.{in_range}
+use Rattle.settle.specs.Around.{all_of}
+use Rattle.settle.specs.Settling.{KeptAt, AddsTo, CutAt, kept_in, KeptRow, Keeps, Present}
 use Rattle.settle.proofs.Around.{between, sample-around}
 
 module _ {s : Settings} {level : ℕ} {cells : List ℕ} (w : KeptAt s level cells) where
@@ -157,6 +160,13 @@ module _ {s : Settings} {level : ℕ} {cells : List ℕ} {lo hi i j hits : ℕ} 
 
 -- the row that the kept cells stand in
 module _ {s : Settings} {k : Kept} {row : List ℕ} (w : KeptRow s k row) where
+  pub range_adds : {lo hi : ℕ} → in_range s lo hi ≡ true → AddsTo s k.level (kept_in k row) lo hi
+  range_adds {lo} {hi} e = let r = range_facts s lo hi e in record { kept = w.held.kept; one = r.0; up = r.1; last = r.2 }
+
+  pub range_cut : {lo hi i j hits : ℕ} → in_range s lo hi ≡ true → i ≡ length (filter (cells_below lo) (kept_in k row))
+      → j ≡ length (filter (cells_below (hi + 1)) (kept_in k row)) → hits ≡ range_count s k.level lo hi → CutAt s k.level (kept_in k row) lo hi i j hits
+  range_cut e b t h = record { adds = range_adds e; before = b; through = t; counted = h }
+
   pub row_sized : length row ≡ 504
   row_sized =
       ap length w.padded

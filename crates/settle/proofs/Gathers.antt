@@ -17,7 +17,8 @@ use Rattle.rule.specs.Rule.{passes}
 use Rattle.rule.specs.Samples.{sample, range_count}
 use Rattle.rule.proofs.Samples.{fits-few}
 use Rattle.find.specs.Finding.{Within}
-use Rattle.settle.specs.Settling.{all_of, Gathers}
+use Rattle.settle.specs.Around.{all_of}
+use Rattle.settle.specs.Settling.{Gathers}
 use Rattle.settle.proofs.Around.{between, sample-around}
 
 stored-length : {row : List ℕ} {k : ℕ} {xs : List ℕ} {next : ℕ} {after : List ℕ} → Stored row k xs next after → k + length xs ≤ length row

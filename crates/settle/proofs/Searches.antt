@@ -1,5 +1,5 @@
 -- The search for the lowest level at which a set fits, as the code goes.
---     Raising, raise_start, raise_room, raise_on, raise_end    upwards, in `climbed`
+--     Raising, raise_start, raise_room, raise_on, raise_end, raise_top    upwards, in `climbed`
 --     Lowering, lower-start, lower_on, lower_stop, lower_end    downwards from a guess, in `raised`
 -- Assumes nothing.
 use mathlib.Core.Path.{◌≡◌, refl, sym, ap, ◌∙◌}
@@ -10,7 +10,7 @@ use Rattle.rule.specs.declared.Settings.{Settings}
 use Rattle.rule.specs.Cells.{Cells}
 use Rattle.rule.specs.Rule.{Good, top}
 use Rattle.rule.specs.Samples.{fits, lowest}
-use Rattle.rule.proofs.Samples.{lowest_from, lowest-least, lowest_now, lowest-fits, lowest_step, lowest_past, below_top}
+use Rattle.rule.proofs.Samples.{lowest_from, lowest-top, lowest-least, lowest_now, lowest-fits, lowest_step, lowest_past, below_top}
 
 -- a level within the top, from which the lowest is the same
 pub record Raising (s : Settings) (X : Cells) (level l : ℕ) : Type 0 where
@@ -32,6 +32,9 @@ module _ (s : Settings) (good : Good s) (X : Cells) {level l : ℕ} (g : Raising
 
   pub raise_end : fits s X l ≡ true → l ≡ lowest s X level
   raise_end e = sym (lowest_now s X l e) ∙ g.same
+
+  pub raise_top : top s ≤ l → top s ≡ lowest s X level
+  raise_top h = omega (arith, g.within, g.same, lowest_from s X l, lowest-top s X l g.within)
 
 -- at this level it fits, and no level below the first is asked for
 pub record Lowering (s : Settings) (X : Cells) (level l : ℕ) : Type 0 where

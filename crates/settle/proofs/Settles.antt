@@ -23,7 +23,8 @@ use Rattle.rule.specs.Rule.{Good, top}
 use Rattle.rule.specs.Samples.{sample, fits, lowest, range_count}
 use Rattle.rule.proofs.Samples.{Agree, sample-same, fits-few, lowest_from, lowest-fits, lowest_step, lowest-same, below_top}
 use Rattle.find.proofs.Counting.{count_few}
-use Rattle.settle.specs.Settling.{all_of, Present, Keeps}
+use Rattle.settle.specs.Around.{all_of}
+use Rattle.settle.specs.Settling.{Present, Keeps}
 use Rattle.settle.proofs.Around.{fits-present}
 
 pub zeros_sized : (out : List ℕ) → out ≡ replicate 504 0 → length out ≡ 504

@@ -3,7 +3,7 @@
 --     alone_sample     its sample at a level is what passes of it
 --     alone_now, alone_over    whether all of it fits, by how many there are
 --     alone_room, alone_next, alone_fits    and otherwise there is a level above, from which the search goes on
---     thins_now, thins_next    what is kept of it, in place
+--     thins_now, thins_room, thins_next, thins_few    what is kept of it, in place
 --     both_alone, both_keeps    of the union of two rows of kept cells
 --     keeps_higher, keeps_lower    from the higher of two levels
 -- Assumes nothing.
@@ -28,8 +28,9 @@ use Rattle.rule.specs.declared.Settings.{Settings}
 use Rattle.rule.specs.Cells.{Cells, ◌∪◌, interval}
 use Rattle.rule.specs.Rule.{passes, top}
 use Rattle.rule.specs.Samples.{sample, fits, lowest, range_count}
-use Rattle.rule.proofs.Samples.{lowest_now}
-use Rattle.settle.specs.Settling.{KeptAt, all_of, Alone, Thins, Keeps}
+use Rattle.rule.proofs.Samples.{fits-few, lowest_now}
+use Rattle.settle.specs.Around.{all_of}
+use Rattle.settle.specs.Settling.{KeptAt, Alone, Thins, Keeps}
 use Rattle.settle.proofs.Around.{between, sample-around}
 use Rattle.settle.proofs.Settles.{keeps_agree, settle_now, settle_not, settle_room, settle_next, settle_fits}
 use Rattle.settle.proofs.Cuts.{kept-few}
@@ -53,7 +54,7 @@ unfolding range_count
 alone_none s level = let e : suc s.n - (s.n + 1) ≡ 0 = omega arith in rw e
 
 module _ {s : Settings} {level : ℕ} {xs : List ℕ} (w : Alone s level xs) where
-  pub alone_sample : (l : ℕ) → sample s (listed xs) l ≡ filter (passes s l) xs
+  alone_sample : (l : ℕ) → sample s (listed xs) l ≡ filter (passes s l) xs
   unfolding between
   alone_sample l =
       let e : suc s.n - (s.n + 1) ≡ 0 = omega arith in
@@ -65,14 +66,14 @@ module _ {s : Settings} {level : ℕ} {xs : List ℕ} (w : Alone s level xs) whe
   pub alone_over : s.capacity < length xs → fits s (all_of xs [] (s.n + 1) s.n) level ≡ false
   alone_over h = settle_not w (alone_none s level) (omega arith)
 
-  pub alone_room : s.capacity < length xs → level + 1 ≤ top s
+  alone_room : s.capacity < length xs → level + 1 ≤ top s
   alone_room h = settle_room w (alone_over h)
 
   module _ (h : s.capacity < length xs) {l : ℕ} (q : l ≡ lowest s (all_of xs [] (s.n + 1) s.n) (level + 1)) where
     pub alone_next : l ≡ lowest s (listed xs) level
     alone_next = settle_next w (alone_over h) q ∙ ap (λ (X : Cells). lowest s X level) (alone_all s xs)
 
-    pub alone_fits : fits s (listed xs) l ≡ true
+    alone_fits : fits s (listed xs) l ≡ true
     alone_fits = ap (λ (X : Cells). fits s X l) (sym (alone_all s xs)) ∙ settle_fits w (alone_over h) q
 
 module _ {s : Settings} {level : ℕ} (many : ℕ) (before : List ℕ) (w : Alone s level (take many before)) (few : many ≤ length before) where
@@ -86,10 +87,16 @@ module _ {s : Settings} {level : ℕ} (many : ℕ) (before : List ℕ) (w : Alon
         stored = stored_as (stored-own before many few) (sym (alone_sample w level ∙ w.front_passes));
       }
 
+  pub thins_room : s.capacity < many → level + 1 ≤ top s
+  thins_room h = alone_room w (omega (arith, long))
+
   module _ (h : s.capacity < many) {l : ℕ} (q : l ≡ lowest s (all_of (take many before) [] (s.n + 1) s.n) (level + 1)) where
     pub thins_next : {count : ℕ} {after : List ℕ} → Stored before 0 (filter (passes s l) (take many before)) count after
         → Thins s level many before l count after
     thins_next g = record { lowest_level = alone_next w (omega (arith, long)) q; stored = stored_as g (sym (alone_sample w l)) }
+
+    pub thins_few : {count : ℕ} {after : List ℕ} → Stored before 0 (filter (passes s l) (take many before)) count after → count ≤ s.capacity
+    thins_few g = omega (arith, g.next_place, ap length (alone_sample w l), fits-few s (listed (take many before)) l (alone_fits w (omega (arith, long)) q))
 
 -- the cells kept at a level, and of others what passes there: the row of both
 module _ {s : Settings} {level own : ℕ} {xs ys : List ℕ} (wx : KeptAt s level xs) (wy : KeptAt s own ys) {row : List ℕ}

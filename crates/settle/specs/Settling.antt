@@ -1,12 +1,14 @@
 -- Cells kept at a level, and a range: what adding and merging come down to. No sketch is spoken of. Assumes nothing: these are definitions.
-use Rattle.std.specs.Prelude.{ℕ, suc, ◌+◌, ◌-◌, ◌≤◌, ◌≡◌, true, List, [], length, take}
+use Rattle.std.specs.Prelude.{ℕ, ◌+◌, ◌≤◌, ◌≡◌, true, List, [], length, take}
 use Rattle.lists.specs.Lists.{listed, filter, Rising}
 use Rattle.lists.specs.Rows.{pad, Stored}
 use Rattle.rule.specs.declared.Settings.{Settings}
-use Rattle.rule.specs.Cells.{Cells, ◌∪◌, interval}
+use Rattle.rule.specs.Cells.{Cells}
 use Rattle.rule.specs.Rule.{Good, passes, top}
 use Rattle.rows.specs.Walked.{cells_below}
+use Rattle.settle.specs.Around.{all_of, Around}
 use Rattle.settle.specs.declared.Kept.{Kept}
+use Rattle.settle.specs.declared.parts.Parts.{Parts}
 use Rattle.rule.specs.Samples.{sample, fits, lowest, range_count}
 
 -- cells kept at a level: of the grid, rising, all passing there, and few enough
@@ -52,21 +54,11 @@ pub record Keeps (s : Settings) (X : Cells) (here places level count : ℕ) (row
   pub number : count ≡ length (sample s X level)
   pub contents : row ≡ pad places (sample s X level)
 
--- the cells of a row before lo and of one after hi, with those of lo..hi
-abbrev pub all_of : List ℕ → List ℕ → ℕ → ℕ → Cells
-all_of front back lo hi = (listed front ∪ listed back) ∪ interval lo hi
+-- the cells of two rows and of a range between them
+abbrev pub cells_of : Parts → Cells
+cells_of w = all_of w.front.now w.back.now w.lo w.hi
 
--- the two rows rise, and stand before lo and after hi; lo..hi may be empty
-pub record Around (s : Settings) (front back : List ℕ) (lo hi : ℕ) : Type 0 where
-  pub good : Good s
-  pub one : 1 ≤ lo
-  pub start : lo ≤ suc hi
-  pub last : hi ≤ s.n
-  pub before : Rising 1 (lo - 1) front
-  pub after : Rising (suc hi) s.n back
-  pub few : length front + length back ≤ 1008
-
--- besides, all their cells pass at the level
+-- two rows around a range, all of whose cells pass at the level
 pub record Present (s : Settings) (level : ℕ) (front back : List ℕ) (lo hi : ℕ) : Type 0 where
   pub around : Around s front back lo hi
   pub low : level ≤ top s
@@ -79,6 +71,12 @@ pub record Gathers (s : Settings) (own level : ℕ) (front back : List ℕ) (lo 
   pub counted : hits ≡ range_count s level lo hi
   pub fit : fits s (all_of front back lo hi) level ≡ true
   pub room : length out ≡ 504
+
+abbrev pub PresentParts : ℕ → Parts → Type 0
+PresentParts level w = Present w.settings level w.front.now w.back.now w.lo w.hi
+
+abbrev pub GathersParts : ℕ → ℕ → Parts → ℕ → List ℕ → Type 0
+GathersParts own level w hits out = Gathers w.settings own level w.front.now w.back.now w.lo w.hi hits out
 
 -- a row alone, all of whose cells pass at the level: the range lies after every cell
 abbrev pub Alone : Settings → ℕ → List ℕ → Type 0

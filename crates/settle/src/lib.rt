@@ -9,11 +9,12 @@ ghost use Rattle.find.specs.Finding.{in_range};
 ghost use Rattle.rule.specs.Cells.{◌∪◌, interval};
 ghost use Rattle.rule.specs.Rule.{Good, passes};
 ghost use Rattle.rule.specs.Samples.{sample, fits, range_count};
-ghost use Rattle.settle.specs.Settling.{all_of, Present, Gathers, Alone, Thins, KeptAt, CutAt, Keeps, kept_in, KeptIn, KeptRow};
+ghost use Rattle.settle.specs.Settling.{cells_of, PresentParts, GathersParts, Alone, Thins, KeptAt, Keeps, kept_in, KeptIn, KeptRow};
 
 mod levels;
+mod parts;
 
-use levels::above;
+use parts::Parts;
 use rule::Settings;
 
 // The places of the row that cells are kept in.
@@ -46,73 +47,37 @@ fn store_at(
     stores::store_passing(out, at, settings, level, cells)
 }
 
-// The same for the cells of two rows and the `hits` cells of lo..hi between them.
-fn gathered(
-    out: &mut [u32],
-    settings: Settings,
-    own: u32,
-    level: u32,
-    front: &[u32],
-    back: &[u32],
-    lo: u32,
-    hi: u32,
-    hits: usize,
-) -> usize
-    requires { Gathers settings own level front.now back.now lo hi hits out.old }
-    ensures { Stored out.old 0 (sample settings (all_of front.now back.now lo hi) level) result out.new }
-{
-    let first = store_at(out, 0, settings, own, level, front);
-    let second = stores::store_hits(out, first, settings, level, lo, hi, hits);
-    store_at(out, second, settings, own, level, back)
-}
-
-// What is kept of two rows, all of whose cells pass at the level, and of lo..hi between them, of
-// which `hits` pass there. At this level no cell need be hashed; only for a higher one are they.
-fn settled(
-    out: &mut [u32],
-    settings: Settings,
-    level: u32,
-    front: &[u32],
-    back: &[u32],
-    lo: u32,
-    hi: u32,
-    hits: usize,
-) -> Kept
-    requires { Present settings level front.now back.now lo hi × (hits ≡ range_count settings level lo hi) × (out.old ≡ replicate 504 0) }
-    ensures { Keeps settings (all_of front.now back.now lo hi) level 504 result.level result.count out.new }
-{
-    let capacity = settings.capacity as usize;
-    let many = hits + front.len() + back.len();
-    if many <= capacity {
-        let count = gathered(out, settings, level, level, front, back, lo, hi, hits) as u32;
-        return Kept { level, count };
+impl<'a> Parts<'a> {
+    // The same for the cells of two rows and the `hits` cells of lo..hi between them.
+    fn gathered(&self, out: &mut [u32], own: u32, level: u32, hits: usize) -> usize
+        requires { GathersParts own level self.now hits out.old }
+        ensures { Stored out.old 0 (sample self.now.settings (cells_of self.now) level) result out.new }
+    {
+        let first = store_at(out, 0, self.settings, own, level, self.front);
+        let second = stores::store_hits(out, first, self.settings, level, self.lo, self.hi, hits);
+        store_at(out, second, self.settings, own, level, self.back)
     }
-    let l = above(settings, level, many, front, back, lo, hi);
-    let left = find::count_in(settings, l, lo, hi) as usize;
-    let count = gathered(out, settings, level, l, front, back, lo, hi, left) as u32;
-    Kept { level: l, count }
+
+    // What is kept of two rows, all of whose cells pass at the level, and of lo..hi between them, of
+    // which `hits` pass there. At this level no cell need be hashed; only for a higher one are they.
+    fn settled(&self, out: &mut [u32], level: u32, hits: usize) -> Kept
+        requires { PresentParts level self.now × (hits ≡ range_count self.now.settings level self.now.lo self.now.hi) × (out.old ≡ replicate 504 0) }
+        ensures { Keeps self.now.settings (cells_of self.now) level 504 result.level result.count out.new }
+    {
+        let capacity = self.settings.capacity as usize;
+        let many = hits + self.front.len() + self.back.len();
+        if many <= capacity {
+            let count = self.gathered(out, level, level, hits) as u32;
+            return Kept { level, count };
+        }
+        let l = self.above(level, many);
+        let left = find::count_in(self.settings, l, self.lo, self.hi) as usize;
+        let count = self.gathered(out, level, l, left) as u32;
+        Kept { level: l, count }
+    }
 }
 
-// Adds lo..hi to the cells kept at a level, into a row of zeros. The cells before place i lie before
-// lo, those from place j on after hi, and `hits` of lo..hi pass.
-fn add_cells(
-    out: &mut [u32],
-    settings: Settings,
-    level: u32,
-    cells: &[u32],
-    lo: u32,
-    hi: u32,
-    i: usize,
-    j: usize,
-    hits: usize,
-) -> Kept
-    requires { CutAt settings level cells.now lo hi i j hits × (out.old ≡ replicate 504 0) }
-    ensures { Keeps settings (listed cells.now ∪ interval lo hi) level 504 result.level result.count out.new }
-{
-    settled(out, settings, level, &cells[..i], &cells[j..], lo, hi, hits)
-}
-
-// The same for what is kept in a row, in place. Where none of lo..hi passes nothing changes, and the
+// Adds lo..hi to what is kept in a row, in place. Where none of lo..hi passes nothing changes, and the
 // row isn't searched. The cells kept in lo..hi pass, so nothing changes either where as many of lo..hi
 // pass as are kept there.
 pub fn add_to(cells: &mut [u32], settings: Settings, kept: Kept, lo: u32, hi: u32) -> Kept
@@ -123,24 +88,21 @@ pub fn add_to(cells: &mut [u32], settings: Settings, kept: Kept, lo: u32, hi: u3
     if hits == 0 {
         return kept;
     }
-    let n = kept.count as usize;
-    let i = rows::below(&cells[..n], lo);
-    let j = rows::below(&cells[..n], hi + 1);
+    let held = &cells[..kept.count as usize];
+    let i = rows::below(held, lo);
+    let j = rows::below(held, hi + 1);
     if i + hits == j {
         return kept;
     }
     let mut out = [0u32; PLACES];
-    let next = add_cells(
-        &mut out,
+    let parts = Parts {
         settings,
-        kept.level,
-        &cells[..n],
+        front: &held[..i],
         lo,
         hi,
-        i,
-        j,
-        hits,
-    );
+        back: &held[j..],
+    };
+    let next = parts.settled(&mut out, kept.level, hits);
     stores::store(cells, 0, &out);
     next
 }
@@ -158,7 +120,14 @@ fn thinned(out: &mut [u32], settings: Settings, level: u32, many: usize) -> Kept
     }
     // No range: it lies after every cell.
     let end = settings.n;
-    let l = above(settings, level, many, &out[..many], &[], end + 1, end);
+    let parts = Parts {
+        settings,
+        front: &out[..many],
+        lo: end + 1,
+        hi: end,
+        back: &[],
+    };
+    let l = parts.above(level, many);
     let count = stores::keep_passing(out, many, settings, l) as u32;
     Kept { level: l, count }
 }

@@ -21,7 +21,8 @@ use Rattle.rule.specs.declared.Settings.{Settings}
 use Rattle.rule.specs.Cells.{Cells, ◌∪◌, interval}
 use Rattle.rule.specs.Rule.{Good, is_good, top}
 use Rattle.rule.specs.Samples.{sample, fits}
-use Rattle.rule.specs.Refusals.{Paper, answered, refused, unless, bad_settings, bad_range, not_one, unequal}
+use Rattle.rule.specs.declared.refusals.Refusal.{Refusal}
+use Rattle.rule.specs.Refusals.{Paper, answered, refused, unless, number_of, bad_settings, bad_range, not_one, unequal}
 use Rattle.rule.proofs.Samples.{fits-few, lowest-fits}
 use Rattle.find.specs.Finding.{in_range}
 use Rattle.find.proofs.Checks.{unless-told}
@@ -32,12 +33,12 @@ use Rattle.sketch.specs.Sketches.{held, sketch_at, cells_of, kept_of, is_sketch,
 use Rattle.sketch.specs.Calls.{open_on, add_when, add_on, merge_when, merge_on, same_settings, done_with, refused_with, Hands}
 use Rattle.sketch.proofs.Facts.{same_facts, count_few}
 
-pub hands_done : (paper : Paper) (next old : Sketch) (r : Changed) → paper ≡ answered [] → r ≡ done_with next → Hands paper next old r
+pub hands_done : (paper : Paper) (next old : Sketch) (r : Changed Refusal) → paper ≡ answered [] → r ≡ done_with next → Hands paper next old r
 hands_done paper next old r e q = record { answer = cc; sketch = cc }
 
-pub hands_refused : (paper : Paper) (next old : Sketch) (number : ℕ) (r : Changed) → paper ≡ refused number 0 → r ≡ refused_with number old
+pub hands_refused : (paper : Paper) (next old : Sketch) (refusal : Refusal) (r : Changed Refusal) → paper ≡ refused (number_of refusal) 0 → r ≡ refused_with refusal old
     → Hands paper next old r
-hands_refused paper next old number r e q = record { answer = cc; sketch = cc }
+hands_refused paper next old refusal r e q = record { answer = cc; sketch = cc }
 
 pub open_good : (s : Settings) → is_good s ≡ true → open_on s ≡ answered []
 unfolding open_on

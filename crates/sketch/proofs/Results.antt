@@ -11,7 +11,8 @@ use Prim.Native.Nat.{ℕ, ◌≤◌, max}
 use native.Mathlib.Omega.{arith}
 use Rattle.lists.specs.Lists.{listed}
 use Rattle.rule.specs.declared.Settings.{Settings}
-use Rattle.rule.specs.declared.answers.Answer.{Answer}
+use Rattle.rule.specs.declared.refusals.Refusal.{Refusal}
+use Rattle.std.specs.Prelude.{Result}
 use Rattle.rule.specs.Cells.{no_cells, ◌∪◌, interval}
 use Rattle.rule.specs.Rule.{is_good, top}
 use Rattle.rule.specs.Refusals.{Paper, answered}
@@ -48,9 +49,9 @@ merge_again j k e f q =
 pub merge_itself : (k : Sketch) → is_sketch k ≡ true → (merge_on k k ≡ answered []) × (merge k k ≡ k)
 merge_itself k e = (merge-both k k e e (facts_same k.settings), merge_self k (sketch_facts k e))
 
-pub hands_tight : (paper : Paper) (next old : Sketch) (x y : Changed) → Hands paper next old x → Hands paper next old y → x ≡ y
+pub hands_tight : (paper : Paper) (next old : Sketch) (x y : Changed Refusal) → Hands paper next old x → Hands paper next old y → x ≡ y
 hands_tight paper next old x y e f =
-    ap (λ (a : Answer). record { answer = a; sketch = x.sketch }) (answer-one x.answer y.answer (e.answer ∙ sym f.answer))
+    ap (λ (a : Result (Unit {0}) Refusal). record { answer = a; sketch = x.sketch }) (answer-one x.answer y.answer (e.answer ∙ sym f.answer))
     ∙ ap (λ (k : Sketch). record { answer = y.answer; sketch = k }) (e.sketch ∙ sym f.sketch)
 
 pub estimate_tight : (k : Sketch) (x y : Estimate) → Estimates k x → Estimates k y → x ≡ y

@@ -1,7 +1,7 @@
 -- What opening, adding and merging answer and hand back. Assumes nothing: these are definitions.
-use Rattle.std.specs.Prelude.{ℕ, ◌≡◌, Bool, ◌&&◌, [], eqb}
+use Rattle.std.specs.Prelude.{ℕ, ◌≡◌, Bool, ◌&&◌, [], eqb, Ok, Err}
 use Rattle.rule.specs.declared.Settings.{Settings}
-use Rattle.rule.specs.declared.answers.Answer.TheVariants.{Done, Refused}
+use Rattle.rule.specs.declared.refusals.Refusal.{Refusal}
 use Rattle.rule.specs.Rule.{is_good, no_settings}
 use Rattle.rule.specs.Refusals.{Paper, answered, refused, unless, bad_settings, bad_range, not_one, unequal, of_answer}
 use Rattle.find.specs.Finding.{in_range}
@@ -35,11 +35,11 @@ unfoldable pub merge_on : Sketch → Sketch → Paper
 merge_on j k = merge_when (is_sketch j) j.settings (is_sketch k) k.settings
 
 -- an answer with the sketch beside it
-abbrev pub done_with : Sketch → Changed
-done_with k = record { answer = Done; sketch = k }
+abbrev pub done_with : Sketch → Changed Refusal
+done_with k = record { answer = Ok record {}; sketch = k }
 
-abbrev pub refused_with : ℕ → Sketch → Changed
-refused_with number k = record { answer = Refused number; sketch = k }
+abbrev pub refused_with : Refusal → Sketch → Changed Refusal
+refused_with refusal k = record { answer = Err refusal; sketch = k }
 
 -- the sketch handed back: the next one, or the old one with a refusal
 abbrev pub handed : Paper → Sketch → Sketch → Sketch
@@ -47,6 +47,6 @@ handed (answered values) next old = next
 handed (refused number place) next old = old
 
 -- what a call that changes a sketch promises
-pub record Hands (paper : Paper) (next old : Sketch) (r : Changed) : Type 0 where
+pub record Hands (paper : Paper) (next old : Sketch) (r : Changed Refusal) : Type 0 where
   pub answer : of_answer r.answer ≡ paper
   pub sketch : r.sketch ≡ handed paper next old

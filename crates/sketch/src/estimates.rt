@@ -1,7 +1,9 @@
-// What the estimate answers: exact at level 0, about above it.
+// What the estimate answers: exact at level 0, about above it. The rules fix these three cases of one enum.
+use rule::refusals::Refusal;
+
 #[derive(Clone, Copy)]
 pub enum Estimate {
     Exact(u32),
     About(f64),
-    Refused(u32),
+    Refused(Refusal),
 }

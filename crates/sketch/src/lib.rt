@@ -8,8 +8,7 @@ ghost use Rattle.sketch.specs.Calls.{Hands, done_with, refused_with, no_sketch, 
 ghost use Rattle.sketch.specs.Estimates.{times_p, stands_at, float_at, Estimates};
 
 use rule::Settings;
-use rule::answers::Answer;
-use rule::refusals::{BAD_SETTINGS, NOT_ONE};
+use rule::refusals::Refusal;
 
 pub mod estimates;
 pub mod order;
@@ -20,8 +19,9 @@ use settle::Kept;
 // The places of a sketch's row.
 pub const PLACES: usize = settle::PLACES;
 
-// A level, and the cells kept at it: the first `count` places, rising, with zeros after them.
-#[derive(Clone, Copy)]
+// A level, and the cells kept at it: the first `count` places, rising, with zeros after them. A fixed
+// row, as the rules have it: a sketch travels by value, without a heap.
+#[derive(Clone, Copy, PartialEq, Eq)]
 pub struct Sketch {
     pub settings: Settings,
     pub level: u32,
@@ -29,27 +29,27 @@ pub struct Sketch {
     pub cells: [u32; PLACES],
 }
 
-// The answer, and the sketch handed back beside it.
+// The answer, and the sketch beside it: one is handed back with a refusal too.
 #[derive(Clone, Copy)]
-pub struct Changed {
-    pub answer: Answer,
+pub struct Changed<E> {
+    pub answer: Result<(), E>,
     pub sketch: Sketch,
 }
 
-fn done(sketch: Sketch) -> Changed
+fn done(sketch: Sketch) -> Changed<Refusal>
     ensures { result ≡ done_with sketch }
 {
     Changed {
-        answer: Answer::Done,
+        answer: Ok(()),
         sketch,
     }
 }
 
-fn refuse(number: u32, sketch: Sketch) -> Changed
-    ensures { result ≡ refused_with number sketch }
+fn refuse(refusal: Refusal, sketch: Sketch) -> Changed<Refusal>
+    ensures { result ≡ refused_with refusal sketch }
 {
     Changed {
-        answer: Answer::Refused(number),
+        answer: Err(refusal),
         sketch,
     }
 }
@@ -87,7 +87,7 @@ pub fn is_sketch(settings: Settings, level: u32, count: u32, cells: &[u32]) -> b
 fn times_p(settings: Settings, count: u32) -> u64
     ensures { result ≡ times_p settings count }
 {
-    (count as u64) * (settings.p as u64)
+    u64::from(count) * u64::from(settings.p)
 }
 
 // How many cells so many kept at a level stand for, in whole numbers: whoever prints it asks here. A
@@ -99,7 +99,7 @@ pub fn stands_at(settings: Settings, level: u32, count: u32) -> u64
     if region == 0 {
         return 0;
     }
-    times_p(settings, count) / (region as u64)
+    times_p(settings, count) / u64::from(region)
 }
 
 // The same as a float. What is kept, times p, is below 2^53, so that only the division rounds.
@@ -107,7 +107,7 @@ fn float_at(settings: Settings, level: u32, count: u32) -> f64
     requires { times_p settings count ≤ 2 ^ 53 }
     ensures { result ≡ float_at settings level count }
 {
-    floats::over(times_p(settings, count), settings.region(level) as u64)
+    floats::over(times_p(settings, count), u64::from(settings.region(level)))
 }
 
 pub fn estimate_of(settings: Settings, level: u32, count: u32, cells: &[u32]) -> Estimate
@@ -115,7 +115,7 @@ pub fn estimate_of(settings: Settings, level: u32, count: u32, cells: &[u32]) ->
     ensures { Estimates (held settings level count cells.now) result }
 {
     if !is_sketch(settings, level, count, cells) {
-        return Estimate::Refused(NOT_ONE);
+        return Estimate::Refused(Refusal::NotOne);
     }
     if level == 0 {
         return Estimate::Exact(count);
@@ -130,11 +130,11 @@ impl Sketch {
         is_sketch(self.settings, self.level, self.count, &self.cells)
     }
 
-    pub fn open(settings: Settings) -> Changed
+    pub fn open(settings: Settings) -> Changed<Refusal>
         ensures { Hands (open_on settings) (opened settings) no_sketch result }
     {
         if !settings.good() {
-            return refuse(BAD_SETTINGS, no_sketch());
+            return refuse(Refusal::Settings, no_sketch());
         }
         done(Sketch {
             settings,
@@ -169,16 +169,15 @@ impl Sketch {
         }
     }
 
-    pub fn add(self, lo: u32, hi: u32) -> Changed
+    pub fn add(self, lo: u32, hi: u32) -> Changed<Refusal>
         ensures { Hands (add_on self lo hi) (add self lo hi) self result }
     {
-        let answer = order::add_answer(self.good(), self.settings, lo, hi);
-        match answer {
-            Answer::Done => {
+        match order::add_answer(self.good(), self.settings, lo, hi) {
+            Ok(()) => {
                 let next = self.added(lo, hi);
                 done(next)
             }
-            Answer::Refused(number) => refuse(number, self),
+            Err(refusal) => refuse(refusal, self),
         }
     }
 
@@ -208,16 +207,15 @@ impl Sketch {
         }
     }
 
-    pub fn merge(self, other: Sketch) -> Changed
+    pub fn merge(self, other: Sketch) -> Changed<Refusal>
         ensures { Hands (merge_on self other) (merge self other) self result }
     {
-        let answer = order::merge_answer(self.good(), self.settings, other.good(), other.settings);
-        match answer {
-            Answer::Done => {
+        match order::merge_answer(self.good(), self.settings, other.good(), other.settings) {
+            Ok(()) => {
                 let both = self.merged(other);
                 done(both)
             }
-            Answer::Refused(refusal) => refuse(refusal, self),
+            Err(cause) => refuse(cause, self),
         }
     }
 

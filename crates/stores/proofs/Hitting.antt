@@ -1,13 +1,12 @@
 -- The walk of `store_along` from hit to hit, and the cases of `store_hits`.
 --     Along, along_start, along_room, along_on, along_end    the hits stored so far, and those that are left
---     cell_next, nothing_next, never_refused    what `first_in` found, as the next hit
 --     hits-none, hits-one, hits_from    no hit, one, and those from the first on
 -- Assumes nothing.
 use Prim.Native.Nat.{ℕ, suc, ◌+◌, ◌-◌, ◌<◌, ◌≤◌}
 use mathlib.Core.Path.{◌≡◌, refl, sym, ap, ◌∙◌}
 use mathlib.Core.Bool.{Bool, true, false}
 use mathlib.Core.List.{List, [], ◌∷◌, ◌++◌, append-nil}
-use mathlib.Core.Option.{Option, some, none}
+use Rattle.std.specs.Prelude.{Some, None}
 use native.Mathlib.Omega.{arith}
 use native.Mathlib.Decide.{dec_le}
 use lib.ListN.{length, set, length-append, length-set}
@@ -19,18 +18,13 @@ use Rattle.lists.proofs.Filters.{filter_none, filter-append}
 use Rattle.lists.proofs.Runs.{run-append, listed-run}
 use Rattle.lists.proofs.Stores.{stored-none, stored_more}
 use Rattle.rule.specs.declared.Settings.{Settings}
-use Rattle.rule.specs.declared.answers.Found.{Found}
-use Rattle.rule.specs.declared.answers.Found.TheVariants as found
 use Rattle.rule.specs.Cells.{Cells}
 use Rattle.rule.specs.Rule.{hash, region, passes}
 use Rattle.rule.specs.Samples.{range_count, next_hit}
-use Rattle.rule.specs.Refusals.{answered, of_found}
 use Rattle.rule.proofs.NextHits.{next_some, walk-some, walk_none}
 use Rattle.strides.specs.declared.Hit.{Hit}
-use Rattle.find.specs.Finding.{hits}
 use Rattle.strides.specs.Striding.{IsHit, Next}
 use Rattle.find.proofs.Counting.{count_none}
-use Rattle.find.proofs.Hits.{hit-some, hit-none}
 
 -- of a range, the first cells that are not in a set do not matter
 skip : (X : Cells) (lo x hi : ℕ) → lo ≤ x → ((y : ℕ) → lo ≤ y → y < x → y ≤ hi → X y ≡ false) → filter X (range lo hi) ≡ filter X (range x hi)
@@ -124,21 +118,11 @@ module _ (row : List ℕ) (k : ℕ) (s : Settings) (level first hi : ℕ) where
             same = simp length-set g.same;
           }
 
--- what `first_in` found says of the next hit
-pub cell_next : (o : Option ℕ) (x : ℕ) (f : Found) → of_found f ≡ answered (hits o) → f ≡ found.Cell x → o ≡ some x
-cell_next o x f e q = hit-some o x (sym (ap of_found q) ∙ e)
-
-pub nothing_next : (o : Option ℕ) (f : Found) → of_found f ≡ answered (hits o) → f ≡ found.Nothing → o ≡ none
-nothing_next o f e q = hit-none o (sym (ap of_found q) ∙ e)
-
-pub never_refused : (o : Option ℕ) (number : ℕ) (f : Found) → of_found f ≡ answered (hits o) → f ≡ found.Refused number → ⊥
-never_refused o number f e q = let z : ◌≡◌ {A = ℕ} 0 1 = cc in omega arith
-
 module _ (s : Settings) (level lo hi : ℕ) where
-  pub hits-none : next_hit s level lo hi ≡ none → (row : List ℕ) (k : ℕ) → Stored row k (filter (passes s level) (range lo hi)) k row
+  pub hits-none : next_hit s level lo hi ≡ None → (row : List ℕ) (k : ℕ) → Stored row k (filter (passes s level) (range lo hi)) k row
   hits-none e row k = rw (walk_none s level lo hi e) (stored-none row k)
 
-  module _ (x : ℕ) (e : next_hit s level lo hi ≡ some x) where
+  module _ (x : ℕ) (e : next_hit s level lo hi ≡ Some x) where
     pub hits-one : range_count s level lo hi ≡ 1 → (row : List ℕ) (k : ℕ) → k < length row
         → Stored row k (filter (passes s level) (range lo hi)) (k + 1) (set row k x)
     unfolding range_count

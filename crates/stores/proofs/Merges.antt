@@ -1,5 +1,6 @@
 -- The laws of a merge of a rising row with the rising cells of another, stored in that other: what a turn does to the union that is left.
 --     Merging, merge-start    a merge under way
+--     stepped         a test as a number
 --     Turn, union_next    what a turn stores is the next cell of the union that is left
 --     merge_on_lem        so a turn leads to the next
 --     merge-room      what is left of the row that is merged in has room before what is left of the other
@@ -13,11 +14,20 @@ use native.Mathlib.Omega.{arith}
 use native.Mathlib.Nat.{add-zero}
 use lib.ListN.{length, take, drop, get_or, set, length-set, length-drop, drop_of_length-le}
 use lib.Seq.{append_snoc, slice, length-take-le, get_or-take}
-use borrow.Author.Tests.{lt-ltb, le-ltb}
+use lib.Dec.{leb}
+use borrow.Author.Tests.{lt-ltb, le-ltb, le-leb, lt-leb}
+use Rattle.std.specs.Int.{from_bool}
 use Rattle.lists.specs.Rows.{union, Stored}
 use Rattle.lists.proofs.Tests.{by_order}
 use Rattle.lists.proofs.Steps.{next}
 use Rattle.lists.proofs.Stores.{stored-none, stored_more, stored_then, stored_beyond, stored-slice}
+
+pub stepped : (x y : ℕ) → from_bool (leb x y) ≡ min 1 (y + 1 - x)
+stepped x y =
+    ⊎_elim
+    (λ (h : y < x). rw (lt-leb x y h) (omega arith))
+    (λ (h : x ≤ y). rw (le-leb x y h) (omega arith))
+    (by_order y x)
 
 -- what a turn makes of the next cells x and y of the two rows: the lesser of them, and by how much each row moves on
 pub record Turn (x y m s t : ℕ) : Type 0 where

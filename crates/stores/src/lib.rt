@@ -1,7 +1,7 @@
-// Cells stored in a row: one loop each. A row is lent, and what stands after what is stored stays.
+// Cells stored in a row. A row is lent, and what stands after what is stored stays.
 #![tactic(auto)]
 
-ghost use Rattle.std.specs.Prelude.{◌≡◌, true, ◌+◌, ◌-◌, ◌≤◌, min, length, take, replicate};
+ghost use Rattle.std.specs.Prelude.{◌≡◌, true, ◌+◌, ◌-◌, ◌≤◌, length, take, replicate};
 ghost use Rattle.std.proofs.Math.Seq.{slice};
 ghost use Rattle.lists.specs.Lists.{filter, range};
 ghost use Rattle.lists.specs.Rows.{union, Stored};
@@ -9,8 +9,8 @@ ghost use Rattle.rule.specs.Rule.{Good, passes};
 ghost use Rattle.rule.specs.Samples.{range_count};
 ghost use Rattle.find.specs.Finding.{Within};
 
+use rows::sieve::Sieve;
 use rule::Settings;
-use rule::answers::Found;
 use strides::{Hit, Strides};
 
 // Stores the row's cells in `out` from place `at` on; answers the place after them.
@@ -18,12 +18,11 @@ pub fn store(out: &mut [u32], at: usize, row: &[u32]) -> usize
     requires { at + length row.now ≤ length out.old }
     ensures { Stored out.old at row.now result out.new }
 {
-    let mut i: usize = 0;
-    while i < row.len() {
+    // `copy_from_slice` calls memmove, and the library asks for memcpy and memset alone.
+    for i in 0..row.len() {
         out[at + i] = row[i];
-        i = i + 1;
     }
-    at + i
+    at + row.len()
 }
 
 // The same for those that pass at the level.
@@ -37,14 +36,10 @@ pub fn store_passing(
     requires { Good settings × (at + length (filter (passes settings level) row.now) ≤ length out.old) }
     ensures { Stored out.old at (filter (passes settings level) row.now) result out.new }
 {
-    let size = settings.region(level);
-    let hasher = settings.hasher();
+    let sieve = Sieve::of(settings, level);
     let mut next = at;
-    let mut i: usize = 0;
-    while i < row.len() {
-        let x = row[i];
-        i = i + 1;
-        if hasher.hash(x) < size {
+    for &x in row {
+        if sieve.passes(x) {
             out[next] = x;
             next = next + 1;
         }
@@ -73,6 +68,7 @@ fn store_along(
         hash: settings.hash(first) as u32,
     };
     let mut next = at;
+    // From hit to hit: no range or slice has these steps.
     while hit.cell <= hi {
         out[next] = hit.cell;
         next = next + 1;
@@ -98,48 +94,32 @@ pub fn store_hits(
         return at;
     }
     match find::first_in(settings, level, lo, hi) {
-        Found::Cell(x) => {
+        Some(x) => {
             if many == 1 {
                 out[at] = x;
                 return at + 1;
             }
             store_along(out, at, settings, level, x, hi)
         }
-        // There is a first one, and `first_in` refuses nothing.
-        Found::Nothing => at,
-        Found::Refused(_) => at,
+        // There is a first one.
+        None => at,
     }
 }
 
-// 1 where x is at most y, else 0: a function of its own, so that it compiles to a test's value and
-// not to a branch.
-fn step(x: u32, y: u32) -> usize
-    ensures { result ≡ min 1 (y + 1 - x) }
-{
-    if x <= y { 1 } else { 0 }
-}
-
-// Moves the cells from place `from` up to `end` down to place `at`; answers the place after them. A
-// place is read before it is written.
+// Moves the cells from place `from` up to `end` down to place `at`; answers the place after them.
 fn slide(out: &mut [u32], at: usize, from: usize, end: usize) -> usize
     requires { (at ≤ from) × (from ≤ end) × (end ≤ length out.old) }
     ensures { Stored out.old at (slice from end out.old) result out.new }
 {
-    let mut next = at;
-    let mut i = from;
-    while i < end {
-        out[next] = out[i];
-        next = next + 1;
-        i = i + 1;
-    }
-    next
+    out.copy_within(from..end, at);
+    at + (end - from)
 }
 
 // Stores at the start of `out` the union, rising, of a rising row and of the rising cells that stand
 // in `out` from place `at` up to `end`; answers how many cells it has. No cell is overwritten before
 // it is read, since the row has no more cells than `at`. A turn stores the lesser of the two next
 // cells, and each side that has it there moves on: which of them can't be foretold, so a turn has no
-// branch.
+// branch, and is no `for` over one of the two.
 pub fn unite(out: &mut [u32], at: usize, end: usize, row: &[u32]) -> usize
     requires { (length row.now ≤ at) × (at ≤ end) × (end ≤ length out.old) }
     ensures { Stored out.old 0 (union row.now (slice at end out.old)) result out.new }
@@ -150,10 +130,10 @@ pub fn unite(out: &mut [u32], at: usize, end: usize, row: &[u32]) -> usize
     while i < row.len() && j < end {
         let x = row[i];
         let y = out[j];
-        out[next] = rule::lesser(x, y);
+        out[next] = x.min(y);
         next = next + 1;
-        i = i + step(x, y);
-        j = j + step(y, x);
+        i = i + usize::from(x <= y);
+        j = j + usize::from(y <= x);
     }
     let m = store(out, next, &row[i..]);
     slide(out, m, j, end)
@@ -165,14 +145,11 @@ pub fn keep_passing(out: &mut [u32], many: usize, settings: Settings, level: u32
     requires { Good settings × (many ≤ length out.old) }
     ensures { Stored out.old 0 (filter (passes settings level) (take many out.old)) result out.new }
 {
-    let size = settings.region(level);
-    let hasher = settings.hasher();
+    let sieve = Sieve::of(settings, level);
     let mut kept: usize = 0;
-    let mut i: usize = 0;
-    while i < many {
+    for i in 0..many {
         let x = out[i];
-        i = i + 1;
-        if hasher.hash(x) < size {
+        if sieve.passes(x) {
             out[kept] = x;
             kept = kept + 1;
         }
@@ -185,9 +162,5 @@ pub fn clear(out: &mut [u32], from: usize, end: usize)
     requires { (from ≤ end) × (end ≤ length out.old) }
     ensures { Stored out.old from (replicate (end - from) 0) end out.new }
 {
-    let mut place = from;
-    while place < end {
-        out[place] = 0;
-        place = place + 1;
-    }
+    out[from..end].fill(0);
 }

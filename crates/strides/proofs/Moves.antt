@@ -12,8 +12,7 @@ use native.Mathlib.Decide.{dec_le}
 use native.Mathlib.Nat.{mod-add-mod, add-mod-mod, add-mul-mod_self_right, mod-eq_of_lt, div-add-mod', mod-lt}
 use borrow.Author.Tests.{ltb-true, ltb-false}
 use Rattle.next.specs.Hit.{Finds}
-use Rattle.next.specs.declared.Index.{Index}
-use Rattle.next.specs.declared.Index.TheVariants.{At, Nothing}
+use Rattle.std.specs.Prelude.{Option, Some, None}
 use Rattle.next.proofs.Laws.{answer_at, answer-nothing}
 use Rattle.strides.specs.declared.Stride.{Stride}
 use Rattle.strides.specs.Striding.{Shortest}
@@ -117,12 +116,12 @@ across {p} {a} {b} {size} {far} {r} {o} {d} {h} {g} whole small l other some nea
     ]
 
 -- an answer of crate `next`, for the progression a, 2 a, 3 a, ..
-module _ (p a size far : ℕ) (x : Index) (f : Finds p a a size far x) where
+module _ (p a size far : ℕ) (x : Option ℕ) (f : Finds p a a size far x) where
   -- element i of it
   element : (i d : ℕ) → d ≡ i + 1 → (a + i * a) % p ≡ d * a % p
   element i d e = ap (λ (y : ℕ). y % p) (omega (arith, ap (λ (y : ℕ). y * a) e))
 
-  pub search_at : (i : ℕ) → x ≡ At i → Shortest p a size far (record { distance = i + 1; change = (i + 1) * a % p })
+  pub search_at : (i : ℕ) → x ≡ Some i → Shortest p a size far (record { distance = i + 1; change = (i + 1) * a % p })
   search_at i e =
       let t = answer_at p a a size far i x f e in
       record {
@@ -133,7 +132,7 @@ module _ (p a size far : ℕ) (x : Index) (f : Finds p a a size far x) where
         none = λ h. absurd (omega (arith, t.0));
       }
 
-  pub search_nothing : x ≡ Nothing → Shortest p a size far (record { distance = far + 1; change = size })
+  pub search_nothing : x ≡ None → Shortest p a size far (record { distance = far + 1; change = size })
   search_nothing e =
       record {
         some = omega arith;

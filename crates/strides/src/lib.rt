@@ -1,17 +1,11 @@
 // The distances from a hit to the next: of the passing cells of a range only the first is searched for.
 #![tactic(auto)]
 
-ghost use Rattle.std.specs.Prelude.{◌≡◌, ◌^◌, ◌<◌, ◌≤◌};
+ghost use Rattle.std.specs.Prelude.{◌<◌, ◌≤◌};
 ghost use Rattle.rule.specs.Rule.{Good};
 ghost use Rattle.strides.specs.Striding.{Shortest, Striding, IsHit, Next};
 
 use rule::Settings;
-
-fn wide(x: u32) -> u64
-    ensures { (result ≡ x) × (x < 2 ^ 32) }
-{
-    x as u64
-}
 
 // A distance between cells, and by how much it changes the hash.
 #[derive(Clone, Copy)]
@@ -27,17 +21,17 @@ impl Stride {
         requires { (p ≤ 4000000000) × (a < p) × (far < 4000000000) }
         ensures { Shortest p a size far result }
     {
-        let modulus = wide(p);
-        let step = wide(a);
-        match next::next_hit(modulus, step, step, wide(size), wide(far)) {
-            next::Index::At(i) => {
+        let modulus = u64::from(p);
+        let step = u64::from(a);
+        match next::next_hit(modulus, step, step, u64::from(size), u64::from(far)) {
+            Some(i) => {
                 let d = i + 1;
                 Stride {
                     distance: d as u32,
                     change: (d * step % modulus) as u32,
                 }
             }
-            next::Index::Nothing => Stride {
+            None => Stride {
                 distance: far + 1,
                 change: size,
             },

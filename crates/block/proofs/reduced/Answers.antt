@@ -8,7 +8,7 @@ use Rattle.block.proofs.reduced.Goals.{After-folded-twice}
 
 -- one fold after the other
 twice : (c : After-folded-twice) → c.folded-twice.result ≡ folded (folded c.args.x)
-twice c = c.folded-twice.ensures ∙ ap folded c.folded-once.ensures
+twice c = c.folded-twice.ensures ∙ ap folded (c.folded-once.ensures ∙ ap folded c.from-unfolded.ensures)
 
 pub overflow_cast-result : goal.overflow_cast-result
 overflow_cast-result c = omega (arith, twice_small (omega arith) (twice c.before))

@@ -1,46 +1,25 @@
--- Before each turn, and at the end, the evening is the run over what was taken of the piece.
+-- What is left of the piece is what the turn left of it.
 use Rattle.std.proofs.Common.{rules}
-use mathlib.Core.Path.{refl, ap, ◌∙◌}
 use native.Mathlib.Omega.{arith}
-use lib.Seq.{take_all}
-use Rattle.evening.specs.Runs.{fed}
-use Rattle.evening.proofs.Pieces.{feeds_some, feeds_within, feeds_sits, feeds_more, piece_length}
+use mathlib.Core.Path.{◌∙◌, sym}
+use Rattle.evening.proofs.Pieces.{feeds_some, feeds_within, feeds_sits, piece_length}
 use Rattle.console.specs.Serving.{served}
+use Rattle.console.proofs.Rest.{feeds_rest, fed_none}
 use Rattle.console.proofs.serve_piece.Goals as goal
 
-pub loop-at-init : goal.loop-at-init
-unfolding fed
-loop-at-init g c = (omega arith, refl, refl, c.requires.0)
+pub slice_bounds-rest-count : goal.slice_bounds-rest-count
+slice_bounds-rest-count g c = feeds_within c.feed-fed.ensures
 
-pub returns-then-not-write_all : goal.returns-then-not-write_all
+pub slice_bounds-rest-start : goal.slice_bounds-rest-start
+slice_bounds-rest-start g c = omega (arith, feeds_within c.feed-fed.ensures)
+
+pub loop-rest-smaller : goal.loop-rest-smaller
+loop-rest-smaller g c =
+    omega (arith, feeds_within c.feed-fed.ensures, feeds_some c.feed-fed.ensures (search rules) (search rules), piece_length c.loop-rest.rest.now c.feed-fed.result.taken)
+
+pub loop-rest-preserved : goal.loop-rest-preserved
+loop-rest-preserved g c = (feeds_rest c.feed-fed.ensures ∙ c.loop-rest.invariant.0, feeds_sits c.feed-fed.ensures c.loop-rest.invariant.1)
+
+pub returns-clause-evening : goal.returns-clause-evening
 unfolding served
-returns-then-not-write_all g c = refl
-
-pub overflow_add-at : goal.overflow_add-at
-overflow_add-at g c =
-    omega (arith, feeds_within c.feed-fed.ensures, piece_length c.args.input.now c.loop-at.at, c.loop-at.invariant.0)
-
-pub loop-at-smaller : goal.loop-at-smaller
-loop-at-smaller g c =
-    let p = piece_length c.args.input.now c.loop-at.at in
-    omega (
-      arith,
-      feeds_within c.feed-fed.ensures,
-      feeds_some c.feed-fed.ensures (omega (arith, c.loop-at.invariant.2, c.requires.1)) (omega (arith, p)),
-      p,
-    )
-
-pub loop-at-preserved : goal.loop-at-preserved
-loop-at-preserved g c =
-    let i = c.loop-at.invariant in (
-      omega (arith, feeds_within c.feed-fed.ensures, piece_length c.args.input.now c.loop-at.at, i.0),
-      feeds_more c.args.evening c.args.input.now c.loop-at.at i.1 c.feed-fed.ensures,
-      search rules,
-      feeds_sits c.feed-fed.ensures i.3,
-    )
-
-pub returns : goal.returns
-unfolding served
-returns g c =
-    let i = c.loop-at.invariant in
-    i.1 ∙ ap (λ l. (fed c.args.evening l).evening) (take_all c.loop-at.at c.args.input.now (omega arith))
+returns-clause-evening g c = sym (fed_none c.loop-rest.s c.loop-rest.rest.now (search rules)) ∙ c.loop-rest.invariant.0

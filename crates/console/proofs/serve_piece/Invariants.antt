@@ -1,11 +1,10 @@
--- What is fed so far is a run over the first bytes of the piece.
-use Rattle.std.proofs.Common.{◌≡◌, ◌≤◌, ◌-◌, length, take}
+-- The run over what is left of the piece, from the evening so far, ends as the run over all of it.
+use Rattle.std.proofs.Common.{◌≡◌, length}
 use Rattle.evening.specs.Runs.{Sitting, fed}
 use Rattle.console.proofs.serve_piece.Given as goal
 
-abbrev pub invariant-loop-at : goal.invariant-loop-at
-invariant-loop-at g l =
-    (l.at ≤ length l.input) × (l.s ≡ (fed l.evening (take l.at l.input)).evening) × (length l.out ≡ length l.fn.out) × Sitting l.s
+abbrev pub invariant-loop-rest : goal.invariant-loop-rest
+invariant-loop-rest g l = ((fed l.s l.rest).evening ≡ (fed l.fn.evening l.fn.input).evening) × Sitting l.s
 
-abbrev pub decreases-loop-at : goal.decreases-loop-at
-decreases-loop-at g l = length l.input - l.at
+abbrev pub decreases-loop-rest : goal.decreases-loop-rest
+decreases-loop-rest g l = length l.rest

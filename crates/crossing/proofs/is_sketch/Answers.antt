@@ -5,6 +5,4 @@ use Rattle.crossing.proofs.Crossings.{parts_in}
 use Rattle.crossing.proofs.is_sketch.Goals as goal
 
 pub returns : goal.returns
-returns c =
-    c.is_sketch.ensures ∙ ap is_sketch (parts_in c.args.row.now _
-    c.settings_in.ensures)
+returns c = c.is_sketch.ensures ∙ ap is_sketch (parts_in c.args.row.now _ c.told-row c.settings_in.ensures)

@@ -9,8 +9,7 @@ use Rattle.crossing.proofs.put_sketch.Goals as goal
 
 pub returns : goal.returns
 returns c =
-    let start = c in
-    let a = start.args in
+    let a = c.args in
     c.put_head.ensures
     ∙ ap (λ (l : List ℕ). sketch_row (held a.s a.level a.count l))
-    (cells-stored a.row.now a.cells.now start.requires.0 start.requires.1 c.store.ensures)
+    (cells-stored a.row.now a.cells.now c.told-row c.requires c.store.ensures)

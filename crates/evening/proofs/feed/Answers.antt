@@ -1,92 +1,31 @@
 -- `evening::feed` meets its contract: a turn is a byte of the run. Assumes nothing.
 use borrow.Author.Rules.{rules}
-use Prim.Native.Nat.{◌-◌, ◌≤◌, ◌<◌}
-use mathlib.Core.Path.{sym}
+use mathlib.Core.Path.{refl, ap}
 use native.Mathlib.Omega.{arith}
-use lib.ListN.{length, length-set}
-use lib.Seq.{length-take-le}
+use Prim.Native.Nat.{◌+◌}
+use lib.ListN.{length-set}
 use Rattle.evening.proofs.Feeding.{feeding_start, feeding_line, feeding_noted, feeding_long, feeding_done, feeding_full}
+use Rattle.evening.proofs.feed.Goals.{then-x-eq10, else-x-eq10+then-length-lt-LINE, else-x-eq10+else-length-lt-LINE}
 use Rattle.evening.proofs.feed.Goals as goal
 
-pub loop-taken-init : goal.loop-taken-init
-loop-taken-init c =
-    let s = c in
-    (feeding_start s.args.evening s.args.input.now s.args.out.now s.requires, search rules, search rules)
+pub loop-x-init : goal.loop-x-init
+loop-x-init c = (feeding_start c.args.evening c.args.input.now c.args.out.now c.requires, refl, search rules)
 
-pub overflow_sub-room : goal.overflow_sub-room
-overflow_sub-room c = omega (arith, c.loop-taken.invariant.0.room, c.loop-taken.invariant.1)
+pub loop-x-preserved : goal.loop-x-preserved
+loop-x-preserved c =
+    let i = c.loop-x.invariant in
+    let next = ap (λ k. k + 1) i.1 in
+    elim c.if-x-eq10.branch [
+      | then-x-eq10 w ↦ rw (w.out-is, w.pot-is, w.length-is, w.line-is, w.written-is)
+          (feeding_line i.0 c.loop-x-test.true (omega arith) w.if-x-eq10.true _ _ _ w.answer-written.ensures (search rules), next, i.2)
+      | else-x-eq10+then-length-lt-LINE w ↦ rw (w.out-is, w.pot-is, w.length-is, w.line-is, w.written-is)
+          (feeding_noted i.0 c.loop-x-test.true (omega arith) w.if-x-eq10.false w.if-length-lt-LINE.true, next, simp length-set i.2)
+      | else-x-eq10+else-length-lt-LINE w ↦ rw (w.out-is, w.pot-is, w.length-is, w.line-is, w.written-is)
+          (feeding_long i.0 c.loop-x-test.true (omega arith) w.if-x-eq10.false w.if-length-lt-LINE.false, next, i.2)
+    ]
 
-pub slice_bounds-line-end : goal.slice_bounds-line-end
-slice_bounds-line-end c =
-    let s = c in
-    omega (arith, s.loop-taken.invariant.0.sits.short, s.loop-taken.invariant.2)
+pub returns-then-out-written-lt-ROOM : goal.returns-then-out-written-lt-ROOM
+returns-then-out-written-lt-ROOM c = rw c.loop-x.invariant.1 (feeding_full c.loop-x.invariant.0 (omega arith))
 
-pub slice_bounds-answer-end : goal.slice_bounds-answer-end
-slice_bounds-answer-end c =
-    let s = c in
-    sym (length-take-le _ _ (omega (arith, s.loop-taken.invariant.0.sits.short, s.loop-taken.invariant.2)))
-
-pub answer-told-requires : goal.answer-told-requires
-answer-told-requires c =
-    let roomy : 40 ≤ length c.args.out.now - c.loop-taken.written =
-    c.if-room-written-ge-ROOM.true in
-    let s = c in
-    (s.loop-taken.invariant.0.sits.pot, omega (arith, s.loop-taken.invariant.0.same, s.loop-taken.invariant.1, roomy))
-
-pub loop-taken-preserved-then-x-eq10 : goal.loop-taken-preserved-then-x-eq10
-loop-taken-preserved-then-x-eq10 c =
-    let roomy : 40 ≤ length c.args.out.now - c.loop-taken.written =
-    c.if-room-written-ge-ROOM.true in
-    let a = c in
-    let two = a in
-    let s = two in
-    let r = roomy in (
-      feeding_line s.loop-taken.invariant.0 (omega arith) (omega (arith, s.loop-taken.invariant.1, r)) two.if-x-eq10.true _ _ a.answer-told.ensures (search rules),
-      s.loop-taken.invariant.1,
-      s.loop-taken.invariant.2,
-    )
-
-pub bounds-line-length : goal.bounds-line-length
-bounds-line-length c =
-    let s = c in
-    omega arith
-
-pub loop-taken-preserved-then-length-lt-LINE : goal.loop-taken-preserved-then-length-lt-LINE
-loop-taken-preserved-then-length-lt-LINE c =
-    let roomy : 40 ≤ length c.args.out.now - c.loop-taken.written =
-    c.if-room-written-ge-ROOM.true in
-    let s = c in
-    let r = roomy in (
-      feeding_noted s.loop-taken.invariant.0 (omega arith) (omega (arith, s.loop-taken.invariant.1, r)) c.if-x-eq10.false c.if-length-lt-LINE.true,
-      s.loop-taken.invariant.1,
-      simp length-set s.loop-taken.invariant.2,
-    )
-
-pub loop-taken-preserved : goal.loop-taken-preserved
-loop-taken-preserved c =
-    let roomy : 40 ≤ length c.args.out.now - c.loop-taken.written =
-    c.if-room-written-ge-ROOM.true in
-    let s = c in
-    let r = roomy in (
-      feeding_long s.loop-taken.invariant.0 (omega arith) (omega (arith, s.loop-taken.invariant.1, r)) c.if-x-eq10.false (omega arith),
-      s.loop-taken.invariant.1,
-      s.loop-taken.invariant.2,
-    )
-
-pub shape_of-out-else-room-written-ge-ROOM : goal.shape_of-out-else-room-written-ge-ROOM
-shape_of-out-else-room-written-ge-ROOM c = c.loop-taken.invariant.0.same
-
-pub returns-else-room-written-ge-ROOM : goal.returns-else-room-written-ge-ROOM
-returns-else-room-written-ge-ROOM c =
-    let full : length c.args.out.now - c.loop-taken.written < 40 =
-    c.if-room-written-ge-ROOM.false in
-    let s = c in
-    feeding_full s.loop-taken.invariant.0 (omega (arith, s.loop-taken.invariant.1, full))
-
-pub shape_of-out-after-loop-taken : goal.shape_of-out-after-loop-taken
-shape_of-out-after-loop-taken c = c.loop-taken.invariant.0.same
-
-pub returns-after-loop-taken : goal.returns-after-loop-taken
-returns-after-loop-taken c =
-    let s = c in
-    feeding_done s.loop-taken.invariant.0 (omega arith)
+pub returns-after-loop-x : goal.returns-after-loop-x
+returns-after-loop-x c = rw c.loop-x.invariant.1 (feeding_done c.loop-x.invariant.0 (omega arith))

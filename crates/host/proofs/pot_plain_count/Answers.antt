@@ -7,4 +7,4 @@ use Rattle.host.proofs.pot_plain_count.Goals as goal
 pub returns : goal.returns
 returns c =
     let a = c.args in
-    told c.told_count.ensures (c.count.ensures ∙ ap (λ s. plain_count_on s a.level a.lo a.hi) c.settings_in.ensures)
+    told c.into.ensures (c.count.ensures ∙ ap (λ s. plain_count_on s a.level a.lo a.hi) c.settings_in.ensures)

@@ -6,5 +6,5 @@ use Rattle.host.proofs.pot_walker_next.Goals as goal
 
 pub returns : goal.returns
 returns c =
-    let s = rw c.walker_in-w.ensures at c.step-stepped.ensures in
-    record { told = told c.told_cell.ensures s.answer; row = c.walker_row.ensures ∙ ap walker_row s.walker }
+    let s = rw c.walker_in.ensures at c.step-stepped.ensures in
+    record { told = told c.into.ensures s.answer; row = c.walker_row.ensures ∙ ap walker_row s.walker }

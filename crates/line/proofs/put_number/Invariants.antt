@@ -1,7 +1,6 @@
 -- `line::put_number` meets its contract: with the digits that are left, the whole number is stored. Assumes nothing.
 use Prim.Native.Nat.{◌≤◌, ◌+◌, ◌-◌}
 use mathlib.Core.Path.{◌≡◌}
-use lib.ListN.{length}
 use Rattle.lists.specs.Rows.{placed}
 use Rattle.line.specs.Texts.{decimal}
 use Rattle.line.proofs.Decimals.{last_digits}
@@ -9,7 +8,4 @@ use Rattle.line.proofs.put_number.Given as goal
 
 abbrev pub invariant-loop-i : goal.invariant-loop-i
 invariant-loop-i l =
-    (l.at ≤ l.i) × (l.i ≤ l.at + 20) × (length l.out ≡ length l.initial.out) × (placed l.out l.at (last_digits (l.i - l.at) l.y) ≡ placed l.initial.out l.at (decimal l.x))
-
-abbrev pub decreases-loop-i : goal.decreases-loop-i
-decreases-loop-i l = l.i
+    (l.at ≤ l.i) × (l.i ≤ l.at + 20) × (placed l.out l.at (last_digits (l.i - l.at) l.y) ≡ placed l.initial.out l.at (decimal l.x))

@@ -1,47 +1,54 @@
 -- `line::read_numbers` meets its contract: the numbers read so far are in the row. Assumes nothing.
-use mathlib.Core.Path.{sym, ◌∙◌}
+use borrow.Author.Rules.{rules}
+use borrow.Author.Tests.{tests}
+use mathlib.Core.Path.{refl, ap, ◌∙◌}
 use native.Mathlib.Omega.{arith}
-use Rattle.line.proofs.Shapes.{gathered_none, gathered_more, gathered_end, row_apart, row_full, row_bad}
+use lib.ListN.{length-append}
+use Rattle.std.proofs.lemmas.Iterator.Consumers.{YieldsList-turn, YieldsList-end}
+use mathlib.Core.List.{[], ◌∷◌}
+use Rattle.line.specs.Reading.{row_of}
+use Rattle.line.proofs.Shapes.{parts_road, gathered_none, gathered_more, gathered_all, gathered_full, gathered_bad, row_words}
 use Rattle.line.proofs.read_numbers.Goals as goal
 
-pub loop-i-init : goal.loop-i-init
-loop-i-init c = gathered_none c.args.line.now c.args.at c.requires
-
-pub returns-then-line-i-ne32 : goal.returns-then-line-i-ne32
-returns-then-line-i-ne32 c =
-    let s = c in
-    c.no_numbers.ensures ∙ row_apart s.loop-i.invariant (omega arith) c.if-line-i-ne32.true
+pub loop-word-init : goal.loop-word-init
+loop-word-init c = (gathered_none _, refl)
 
 pub returns-then-count-eq5 : goal.returns-then-count-eq5
 returns-then-count-eq5 c =
-    let s = c in
-    c.no_numbers-then-count-eq5.ensures ∙ row_full s.loop-i.invariant (omega arith) c.if-line-i-ne32.false c.if-count-eq5.true
+    let it = c.split-word-items.ensures in
+    let whole = c.in-Some.ensures.cases.0 in
+    let turn = YieldsList-turn
+    (parts_road _ c.into_iter-word-iterator.ensures.into_iter_gives whole it.rest it.done it.closure (λ y b q k. search (rules, tests)))
+    c.loop-word.yielded _ c.loop-word.yielded_by _ _ _ c.in-Some-word.is c.next.ensures.steps in
+    gathered_full c.loop-word.invariant.0 c.loop-word.invariant.1 turn c.if-count-eq5.true ∙ ap row_of (row_words c.args.rest.now whole c.if-space-ne32.false)
 
-pub returns-in_default : goal.returns-in_default
-returns-in_default c =
-    let word = c in
-    let s = word in
-    c.no_numbers-in_default.ensures
-    ∙ row_bad s.loop-i.invariant (omega arith) word.if-line-i-ne32.false (sym word.number_at-word.ensures ∙ c.in_default.is)
+pub returns-in_err-values : goal.returns-in_err-values
+returns-in_err-values c =
+    let it = c.split-word-items.ensures in
+    let whole = c.in-Some.ensures.cases.0 in
+    let turn = YieldsList-turn
+    (parts_road _ c.into_iter-word-iterator.ensures.into_iter_gives whole it.rest it.done it.closure (λ y b q k. search (rules, tests)))
+    c.loop-word.yielded _ c.loop-word.yielded_by _ _ _ c.in-Some-word.is c.next.ensures.steps in
+    c.from_residual.ensures
+    ∙ gathered_bad c.loop-word.invariant.0 c.loop-word.invariant.1 turn c.in_err-values.ensures
+    ∙ ap row_of (row_words c.args.rest.now whole c.if-space-ne32.false)
 
-pub loop-i-smaller : goal.loop-i-smaller
-loop-i-smaller c =
-    let word = c in
-    let s = word in
-    let two = word in
-    let told = sym word.number_at-word.ensures ∙ c.in-Value.is in
-    let m = gathered_more s.loop-i.invariant (omega arith) two.if-line-i-ne32.false two.if-count-eq5.false _ _ told in
-    omega (arith, m.0)
-
-pub loop-i-preserved : goal.loop-i-preserved
-loop-i-preserved c =
-    let word = c in
-    let s = word in
-    let two = word in
-    let told = sym word.number_at-word.ensures ∙ c.in-Value.is in
-    (gathered_more s.loop-i.invariant (omega arith) two.if-line-i-ne32.false two.if-count-eq5.false _ _ told).1
+pub loop-word-preserved : goal.loop-word-preserved
+loop-word-preserved c =
+    let it = c.split-word-items.ensures in
+    let whole = c.in-Some.ensures.cases.0 in
+    let turn = YieldsList-turn
+    (parts_road _ c.into_iter-word-iterator.ensures.into_iter_gives whole it.rest it.done it.closure (λ y b q k. search (rules, tests)))
+    c.loop-word.yielded _ c.loop-word.yielded_by _ _ _ c.in-Some-word.is c.next.ensures.steps in (
+      gathered_more c.loop-word.invariant.0 c.loop-word.invariant.1 turn c.if-count-eq5.false _ c.in_ok-values.ensures,
+      omega (arith, c.loop-word.invariant.1, length-append c.loop-word.yielded (c.in-Some-word.word ∷ [])),
+    )
 
 pub returns : goal.returns
 returns c =
-    let s = c in
-    gathered_end s.loop-i.invariant (omega arith)
+    let it = c.split-word-items.ensures in
+    let whole = c.in-Some.ensures.cases.0 in
+    let all = YieldsList-end
+    (parts_road _ c.into_iter-word-iterator.ensures.into_iter_gives whole it.rest it.done it.closure (λ y b q k. search (rules, tests)))
+    c.loop-word.yielded _ c.loop-word.yielded_by _ _ c.in-None.is c.next.ensures.steps in
+    gathered_all c.loop-word.invariant.0 (c.loop-word.invariant.1 ∙ all.1) ∙ ap row_of (row_words c.args.rest.now whole c.if-space-ne32.false)

@@ -1,9 +1,6 @@
 -- The cells that counted are no more than the cells that were tested.
-use Rattle.std.proofs.Common.{◌≤◌, ◌-◌}
+use Rattle.std.proofs.Common.{◌≤◌}
 use Rattle.paper.proofs.print_steps.Given as goal
 
 abbrev pub invariant-loop-x : goal.invariant-loop-x
-invariant-loop-x g l = (l.x ≤ 10) × (l.many ≤ l.x)
-
-abbrev pub decreases-loop-x : goal.decreases-loop-x
-decreases-loop-x g l = 10 - l.x
+invariant-loop-x g l = l.many ≤ l.x-counter

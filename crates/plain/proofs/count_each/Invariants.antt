@@ -1,4 +1,4 @@
--- `plain::count_each` meets its contract. Each turn adds what one cell counts; the cells left fall. Assumes nothing.
+-- Each turn adds what one cell counts. Assumes nothing.
 use Prim.Native.Nat.{suc, ◌-◌, ◌≤◌}
 use mathlib.Core.Path.{◌≡◌}
 use lib.ListN.{length}
@@ -7,7 +7,4 @@ use Rattle.plain.proofs.Walks.{seen}
 use Rattle.plain.proofs.count_each.Given as goal
 
 abbrev pub invariant-loop-x : goal.invariant-loop-x
-invariant-loop-x l = (l.lo ≤ l.x) × (l.x - l.lo ≤ suc l.hi - l.lo) × (l.many ≤ l.x) × (l.many ≡ length (seen (passes l.settings l.level) l.lo l.x))
-
-abbrev pub decreases-loop-x : goal.decreases-loop-x
-decreases-loop-x l = suc l.hi - l.x
+invariant-loop-x l = (l.x - l.lo ≤ suc l.hi - l.lo) × (l.many ≤ l.x) × (l.many ≡ length (seen (passes l.settings l.level) l.lo l.x))

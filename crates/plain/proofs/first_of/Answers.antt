@@ -1,36 +1,20 @@
--- `plain::first_of` meets its contract. No cell before x passes; the cells left fall. Assumes nothing.
-use mathlib.Core.Path.{sym, ap, ◌∙◌}
-use mathlib.Core.List.{List}
-use native.Mathlib.Omega.{arith}
+-- `plain::first_of` meets its contract. Assumes nothing.
+use mathlib.Core.Path.{◌∙◌, sym}
+use borrow.Author.Tests.{tests}
+use borrow.Author.Rules.{rules}
 use Rattle.rule.specs.Rule.{passes}
-use Rattle.rule.specs.Refusals.{answered}
-use Rattle.rule.specs.Samples.{next_hit, first}
-use Rattle.find.specs.Finding.{hits}
-use Rattle.plain.proofs.Walks.{seen_none, seen_off, seen_all, first_here}
+use Rattle.rule.specs.Samples.{next_hit}
+use Rattle.std.proofs.lemmas.Iterator.Adapters.{option_map_id}
+use Rattle.std.proofs.lemmas.Iterator.Search.{find_from_yields_List}
+use Rattle.lists.specs.Lists.{range}
+use Rattle.plain.proofs.Chains.{cells_given, found}
 use Rattle.plain.proofs.first_of.Goals as goal
-
-pub loop-x-init : goal.loop-x-init
-loop-x-init c = let a = c.args in (omega arith, omega arith, seen_none (passes a.settings a.level) a.from)
-
-pub returns-then-passes : goal.returns-then-passes
-unfolding next_hit
-returns-then-passes c =
-    let a = c.args in
-    let l = c.loop-x in
-    let here = sym c.passes.ensures ∙ c.if-passes.true in
-    sym (ap (λ o. answered (hits o)) (first_here (passes a.settings a.level) a.from l.x l.invariant.0 a.last (omega arith) l.invariant.2 here))
-
-pub loop-x-preserved : goal.loop-x-preserved
-loop-x-preserved c =
-    let a = c.args in
-    let l = c.loop-x in
-    let off = seen_off (passes a.settings a.level) a.from l.x l.invariant.0 (sym c.passes.ensures ∙ c.if-passes.false) in
-    (omega arith, omega arith, off ∙ l.invariant.2)
 
 pub returns : goal.returns
 unfolding next_hit
 returns c =
     let a = c.args in
-    let l = c.loop-x in
-    let all = seen_all (passes a.settings a.level) a.from l.x a.last l.invariant.1 (omega arith) in
-    sym (ap (λ (found : List _). answered (hits (first found))) (sym all ∙ l.invariant.2))
+    let X = passes a.settings a.level in
+    let cells = cells_given {s = c.new.result} a.from a.last c.new.ensures.start c.new.ensures.end c.new.ensures.exhausted in
+    sym (option_map_id c.find.result) ∙ find_from_yields_List X _ _ c.find.result c.find.ensures.ran cells (λ x b q k. search (rules, tests))
+    ∙ found X (range a.from a.last)

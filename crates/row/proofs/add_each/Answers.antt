@@ -1,9 +1,8 @@
--- The element at `i` is what the next add takes, and after it the run stands before `i + 1`.
-use Rattle.std.proofs.Common.{arith}
+-- After the next add the run stands before the next stretch.
 use Rattle.row.proofs.Runs.{one_more}
 use Rattle.row.proofs.add_each.Goals as goal
 
-pub loop-i-preserved : goal.loop-i-preserved
-loop-i-preserved c =
-    let l = c.loop-i in
-    (omega arith, one_more c.args.sketch c.args.row.now l.i c.loop-i-test.true l.k l.invariant.1 c.added-k.result c.added-k.ensures)
+pub loop-s-preserved : goal.loop-s-preserved
+loop-s-preserved c =
+    let l = c.loop-s in
+    one_more c.args.sketch c.args.row.now l.s-index c.loop-s-test.true l.k l.invariant c.added-k.result c.added-k.ensures

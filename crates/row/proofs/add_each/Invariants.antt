@@ -1,10 +1,6 @@
--- The run of adds, turn by turn: `k` is what it has made before element `i`.
-use Rattle.std.proofs.Common.{◌≤◌, ◌-◌, length}
+-- The run of adds, turn by turn: `k` is what it has made before this stretch.
 use Rattle.row.proofs.Runs.{Added}
 use Rattle.row.proofs.add_each.Given as goal
 
-abbrev pub invariant-loop-i : goal.invariant-loop-i
-invariant-loop-i l = (l.i ≤ length l.row) × Added l.fn.sketch l.row l.i l.k
-
-abbrev pub decreases-loop-i : goal.decreases-loop-i
-decreases-loop-i l = length l.row - l.i
+abbrev pub invariant-loop-s : goal.invariant-loop-s
+invariant-loop-s l = Added l.fn.sketch l.row l.s-index l.k

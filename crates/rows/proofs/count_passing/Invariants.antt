@@ -1,13 +1,10 @@
 -- `rows::count_passing` meets its contract. Assumes nothing.
-use Prim.Native.Nat.{◌-◌, ◌≤◌}
+use Prim.Native.Nat.{◌≤◌}
 use mathlib.Core.Path.{◌≡◌}
 use lib.ListN.{length, take}
 use Rattle.lists.specs.Lists.{filter}
 use Rattle.rule.specs.Rule.{passes}
 use Rattle.rows.proofs.count_passing.Given as goal
 
-abbrev pub invariant-loop-i : goal.invariant-loop-i
-invariant-loop-i l = (l.i ≤ length l.row) × (l.many ≤ l.i) × (l.many ≡ length (filter (passes l.hasher.settings l.level) (take l.i l.row)))
-
-abbrev pub decreases-loop-i : goal.decreases-loop-i
-decreases-loop-i l = length l.row - l.i
+abbrev pub invariant-loop-x : goal.invariant-loop-x
+invariant-loop-x l = (l.many ≤ l.x-index) × (l.many ≡ length (filter (passes l.fn.settings l.level) (take l.x-index l.row)))

@@ -14,6 +14,3 @@ returns-then-level-eq0 c =
       and-true
           (in_order a.settings.n 0 a.row.now),
     ) c.in_order-ordered.ensures
-
-pub returns : goal.returns
-returns c = rw (c.in_order-ordered.ensures, c.all_pass.ensures)

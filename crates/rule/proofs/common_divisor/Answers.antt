@@ -21,7 +21,7 @@ odd_divisor-requires c =
 pub overflow_shl-result : goal.overflow_shl-result
 overflow_shl-result c =
     let s = end_zeros 32 c.args.a (omega arith) c.if-a-eq0.false in
-    rw c.lesser.ensures (omega (arith, s.below))
+    rw c.min.ensures (omega (arith, s.below))
 
 pub returns-then-a-eq0 : goal.returns-then-a-eq0
 returns-then-a-eq0 c = first-zero _ _ c.if-a-eq0.true
@@ -34,5 +34,5 @@ returns-else-p-eq0 c =
     let g = c in
     let s = end_zeros 32 g.args.a (omega arith) c.if-a-eq0.false in
     let t = end_zeros 32 g.args.p (omega arith) c.if-p-eq0.false in
-    let e = ap₂ (λ (d m : ℕ). d * 2 ^ m) c.odd_divisor.ensures c.lesser.ensures ∙ strips_end s t in
+    let e = ap₂ (λ (d m : ℕ). d * 2 ^ m) c.odd_divisor.ensures c.min.ensures ∙ strips_end s t in
     rw e (mod-eq_of_lt (omega (arith, common_few g.args.a g.args.p)))

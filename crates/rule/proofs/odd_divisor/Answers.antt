@@ -17,13 +17,13 @@ pub loop-x-smaller : goal.loop-x-smaller
 loop-x-smaller c =
     let l = c.loop-x in
     let s = equal_bits 32 l.x l.y l.invariant.3 l.invariant.4 c.loop-x-test.true in
-    rw (c.apart.ensures, c.lesser-low.ensures, strips_rest s) (omega (arith, strips_few s, c.loop-x-test.true))
+    rw (c.abs_diff.ensures, c.min-low.ensures, strips_rest s) (omega (arith, strips_few s, c.loop-x-test.true))
 
 pub loop-x-preserved : goal.loop-x-preserved
 loop-x-preserved c =
     let l = c.loop-x in
     let s = equal_bits 32 l.x l.y l.invariant.3 l.invariant.4 c.loop-x-test.true in
-    rw (c.apart.ensures, c.lesser-low.ensures, strips_rest s)
+    rw (c.abs_diff.ensures, c.min-low.ensures, strips_rest s)
     (keeps_turn _ _ l.x l.y _ l.invariant.0 l.invariant.1 s, s.odd, omega arith, omega (arith, strips_few s), omega arith)
 
 pub returns : goal.returns

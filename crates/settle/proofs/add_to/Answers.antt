@@ -1,114 +1,54 @@
 -- `settle::add_to` meets its contract. Assumes nothing.
-use mathlib.Core.Path.{◌≡◌, refl, sym, ◌∙◌}
+use mathlib.Core.Path.{refl, sym, ◌∙◌, subst}
 use native.Mathlib.Omega.{arith}
-use lib.ListN.{length}
 use lib.Seq.{length-take-le}
-use Rattle.find.proofs.Checks.{range_facts}
-use Rattle.rows.specs.Walked.{Ascending}
 use Rattle.rows.proofs.Facts.{rising_ascends}
-use Rattle.settle.specs.Settling.{AddsTo, CutAt, kept_in}
-use Rattle.settle.proofs.Cuts.{cut_few, row_sized, cut_keeps, none_keeps}
+use Rattle.rule.specs.Cells.{Cells}
+use Rattle.settle.specs.Settling.{Keeps}
+use Rattle.settle.proofs.Cuts.{range_adds, range_cut, cut_few, cut_present, cut_all, row_sized, cut_keeps, none_keeps}
 use Rattle.settle.proofs.Settles.{keeps_whole}
-use borrow.Author.Rules.{rules}
 use Rattle.settle.proofs.add_to.Goals as goal
-
-pub count_in-hits-requires : goal.count_in-hits-requires
-count_in-hits-requires c =
-    let adds : AddsTo c.args.settings c.args.kept.level (kept_in c.args.kept c.args.cells.now) c.args.lo c.args.hi =
-    let r = range_facts c.args.settings _ _ c.requires.1 in
-    record { kept = c.requires.0.held.kept; one = r.0; up = r.1; last = r.2 } in
-    let w = adds in
-    record { good = w.kept.good; low = w.one; start = omega (arith, w.up); last = w.last }
 
 pub returns-then-hits-eq0 : goal.returns-then-hits-eq0
 returns-then-hits-eq0 c =
-    let adds : AddsTo c.args.settings c.args.kept.level (kept_in c.args.kept c.args.cells.now) c.args.lo c.args.hi =
-    let r = range_facts c.args.settings _ _ c.requires.1 in
-    record { kept = c.requires.0.held.kept; one = r.0; up = r.1; last = r.2 } in
-    none_keeps c.requires.0 adds (sym c.if-hits-eq0.true ∙ c.count_in-hits.ensures)
-
-pub slice_bounds-below-end-2 : goal.slice_bounds-below-end-2
-slice_bounds-below-end-2 c =
-    let slice-own : c.args.kept.count ≡ length (kept_in c.args.kept c.args.cells.now) =
-    sym (length-take-le _ _ c.requires.0.held.within) in
-    slice-own
+    none_keeps c.requires.0 (range_adds c.requires.0 c.requires.1) (sym c.if-hits-eq0.true ∙ c.count_in-hits.ensures)
 
 pub below-i-requires : goal.below-i-requires
-below-i-requires c =
-    let adds : AddsTo c.args.settings c.args.kept.level (kept_in c.args.kept c.args.cells.now) c.args.lo c.args.hi =
-    let r = range_facts c.args.settings _ _ c.requires.1 in
-    record { kept = c.requires.0.held.kept; one = r.0; up = r.1; last = r.2 } in
-    let rises : Ascending (kept_in c.args.kept c.args.cells.now) =
-    rising_ascends (kept_in c.args.kept c.args.cells.now) 1 c.args.settings.n adds.kept.rise in
-    rises
-
-pub slice_bounds-below-end-4 : goal.slice_bounds-below-end-4
-slice_bounds-below-end-4 c =
-    let slice-own : c.args.kept.count ≡ length (kept_in c.args.kept c.args.cells.now) =
-    sym (length-take-le _ _ c.requires.0.held.within) in
-    slice-own
-
-pub overflow_add-hi : goal.overflow_add-hi
-overflow_add-hi c =
-    let adds : AddsTo c.args.settings c.args.kept.level (kept_in c.args.kept c.args.cells.now) c.args.lo c.args.hi =
-    let r = range_facts c.args.settings _ _ c.requires.1 in
-    record { kept = c.requires.0.held.kept; one = r.0; up = r.1; last = r.2 } in
-    search (rules, adds)
+below-i-requires c = rising_ascends _ _ _ c.requires.0.held.kept.rise
 
 pub below-j-requires : goal.below-j-requires
-below-j-requires c =
-    let adds : AddsTo c.args.settings c.args.kept.level (kept_in c.args.kept c.args.cells.now) c.args.lo c.args.hi =
-    let r = range_facts c.args.settings _ _ c.requires.1 in
-    record { kept = c.requires.0.held.kept; one = r.0; up = r.1; last = r.2 } in
-    let rises : Ascending (kept_in c.args.kept c.args.cells.now) =
-    rising_ascends (kept_in c.args.kept c.args.cells.now) 1 c.args.settings.n adds.kept.rise in
-    rises
+below-j-requires c = rising_ascends _ _ _ c.requires.0.held.kept.rise
 
 pub overflow_add-i : goal.overflow_add-i
 overflow_add-i c =
-    let adds : AddsTo c.args.settings c.args.kept.level (kept_in c.args.kept c.args.cells.now) c.args.lo c.args.hi =
-    let r = range_facts c.args.settings _ _ c.requires.1 in
-    record { kept = c.requires.0.held.kept; one = r.0; up = r.1; last = r.2 } in
-    let cut : let a = c.args in
-    CutAt a.settings a.kept.level (kept_in c.args.kept c.args.cells.now) a.lo a.hi c.below-i.result c.below-j.result c.count_in-hits.result =
-    record { adds = adds; before = c.below-i.ensures; through = c.below-j.ensures; counted = c.count_in-hits.ensures } in
-    let w = cut in search (rules, (cut_few w).0, w.adds.kept.few, w.adds.kept.good.capacity_high)
+    let w = c.requires.0.held.kept in
+    omega (arith, (cut_few (range_cut c.requires.0 c.requires.1 c.below-i.ensures c.below-j.ensures c.count_in-hits.ensures)).0, w.few, w.good.capacity_high)
 
 pub returns-then-i-hits : goal.returns-then-i-hits
-returns-then-i-hits c =
-    let adds : AddsTo c.args.settings c.args.kept.level (kept_in c.args.kept c.args.cells.now) c.args.lo c.args.hi =
-    let r = range_facts c.args.settings _ _ c.requires.1 in
-    record { kept = c.requires.0.held.kept; one = r.0; up = r.1; last = r.2 } in
-    let cut : let a = c.args in
-    CutAt a.settings a.kept.level (kept_in c.args.kept c.args.cells.now) a.lo a.hi c.below-i.result c.below-j.result c.count_in-hits.result =
-    record { adds = adds; before = c.below-i.ensures; through = c.below-j.ensures; counted = c.count_in-hits.ensures } in
-    cut_keeps c.requires.0 cut (omega (arith, c.if-i-hits.true))
+returns-then-i-hits c = cut_keeps c.requires.0 (range_cut c.requires.0 c.requires.1 c.below-i.ensures c.below-j.ensures c.count_in-hits.ensures) (omega (arith, c.if-i-hits.true))
 
-pub slice_bounds-add_cells-end-3 : goal.slice_bounds-add_cells-end-3
-slice_bounds-add_cells-end-3 c =
-    let slice-own : c.args.kept.count ≡ length (kept_in c.args.kept c.args.cells.now) =
-    sym (length-take-le _ _ c.requires.0.held.within) in
-    slice-own
+pub slice_bounds-parts-end : goal.slice_bounds-parts-end
+slice_bounds-parts-end c = sym (length-take-le _ _ (cut_few (range_cut c.requires.0 c.requires.1 c.below-i.ensures c.below-j.ensures c.count_in-hits.ensures)).0)
 
-pub add_cells-next-requires : goal.add_cells-next-requires
-add_cells-next-requires c =
-    let adds : AddsTo c.args.settings c.args.kept.level (kept_in c.args.kept c.args.cells.now) c.args.lo c.args.hi =
-    let r = range_facts c.args.settings _ _ c.requires.1 in
-    record { kept = c.requires.0.held.kept; one = r.0; up = r.1; last = r.2 } in
-    let cut : let a = c.args in
-    CutAt a.settings a.kept.level (kept_in c.args.kept c.args.cells.now) a.lo a.hi c.below-i.result c.below-j.result c.count_in-hits.result =
-    record { adds = adds; before = c.below-i.ensures; through = c.below-j.ensures; counted = c.count_in-hits.ensures } in
-    (cut, refl)
+pub offset_bounds-held-j : goal.offset_bounds-held-j
+offset_bounds-held-j c =
+    let w = c.requires.0.held.kept in
+    omega (arith, (cut_few (range_cut c.requires.0 c.requires.1 c.below-i.ensures c.below-j.ensures c.count_in-hits.ensures)).1, w.few, w.good.capacity_high)
 
-pub store-requires : goal.store-requires
-store-requires c =
-    let lengths : length c.args.cells.now ≡ length c.add_cells-next.new.out =
-    omega (arith, row_sized c.requires.0, c.add_cells-next.auto.out) in
-    omega (arith, lengths)
+pub slice_bounds-parts-count : goal.slice_bounds-parts-count
+slice_bounds-parts-count c = (cut_few (range_cut c.requires.0 c.requires.1 c.below-i.ensures c.below-j.ensures c.count_in-hits.ensures)).1
+
+pub slice_bounds-parts-start : goal.slice_bounds-parts-start
+slice_bounds-parts-start c = (cut_few (range_cut c.requires.0 c.requires.1 c.below-i.ensures c.below-j.ensures c.count_in-hits.ensures)).1
+
+pub invariant_of-parts : goal.invariant_of-parts
+invariant_of-parts c = record { around = (cut_present (range_cut c.requires.0 c.requires.1 c.below-i.ensures c.below-j.ensures c.count_in-hits.ensures)).around }
+
+pub settled-next-requires : goal.settled-next-requires
+settled-next-requires c = (cut_present (range_cut c.requires.0 c.requires.1 c.below-i.ensures c.below-j.ensures c.count_in-hits.ensures), c.count_in-hits.ensures, refl)
 
 pub returns : goal.returns
 returns c =
-    let lengths : length c.args.cells.now ≡ length c.add_cells-next.new.out =
-    omega (arith, row_sized c.requires.0, c.add_cells-next.auto.out) in
-    let added = c in
-    keeps_whole added.add_cells-next.ensures (omega (arith, lengths)) c.store.ensures
+    let kept = c.settled-next in
+    let keeps = subst (λ (X : Cells). Keeps c.args.settings X c.args.kept.level 504 kept.result.level kept.result.count kept.new.out) (cut_all (range_cut c.requires.0 c.requires.1 c.below-i.ensures c.below-j.ensures c.count_in-hits.ensures)) kept.ensures in
+    keeps_whole keeps (omega (arith, row_sized c.requires.0, kept.auto.out)) c.store.ensures

@@ -11,4 +11,4 @@ returns-then-region-eq0 c =
 
 pub returns : goal.returns
 unfolding stands_at
-returns c = rw (c.region-region.ensures, c.times_p.ensures)
+returns c = rw (c.from.ensures, c.region-region.ensures, c.times_p.ensures)

@@ -1,15 +1,9 @@
 -- `stores::store_passing` meets its contract. Assumes nothing.
-use Prim.Native.Nat.{◌-◌, ◌≤◌}
-use mathlib.Core.Path.{◌≡◌}
-use lib.ListN.{length, take}
+use lib.ListN.{take}
 use Rattle.lists.specs.Lists.{filter}
 use Rattle.lists.specs.Rows.{Stored}
 use Rattle.rule.specs.Rule.{passes}
 use Rattle.stores.proofs.store_passing.Given as goal
 
-abbrev pub invariant-loop-i : goal.invariant-loop-i
-invariant-loop-i l = (l.i ≤ length l.row) × (length l.out ≡ length l.initial.out)
-    × Stored l.initial.out l.at (filter (passes l.hasher.settings l.level) (take l.i l.row)) l.next l.out
-
-abbrev pub decreases-loop-i : goal.decreases-loop-i
-decreases-loop-i l = length l.row - l.i
+abbrev pub invariant-loop-x : goal.invariant-loop-x
+invariant-loop-x l = Stored l.initial.out l.at (filter (passes l.fn.settings l.level) (take l.x-index l.row)) l.next l.out

@@ -8,7 +8,7 @@ use lib.ListN.{length, take, drop, length-drop}
 use borrow.Author.Tests.{ltb-true, ltb-false}
 use Rattle.lists.specs.Rows.{Stored}
 use Rattle.lists.proofs.Steps.{part_rest}
-use Rattle.stores.proofs.Merges.{merge-start, merge_on_lem, merge-room, merge_end}
+use Rattle.stores.proofs.Merges.{stepped, merge-start, merge_on_lem, merge-room, merge_end}
 use Rattle.stores.proofs.unite.Goals as goal
 use Rattle.stores.proofs.unite.Goals.{then-loop-i-test+else-j-end, else-loop-i-test}
 
@@ -27,14 +27,14 @@ pub bounds-out-j : goal.bounds-out-j
 bounds-out-j c = omega (arith, ltb-true)
 
 pub overflow_add-j : goal.overflow_add-j
-overflow_add-j c = omega (arith, ltb-true)
+overflow_add-j c = omega (arith, ltb-true, stepped)
 
 pub loop-i-preserved : goal.loop-i-preserved
 loop-i-preserved c =
     let h : c.loop-i.i < length c.args.row.now = omega arith in
     let k : c.loop-i.j < c.args.end = omega (arith, ltb-true) in
     merge_on_lem c.loop-i.invariant (omega arith) (omega arith) h k
-    (record { stores = c.lesser.ensures; moves_a = c.step-i.ensures; moves_b = c.step-j.ensures })
+    (record { stores = c.min.ensures; moves_a = c.from-i.ensures ∙ stepped _ _; moves_b = c.from-j.ensures ∙ stepped _ _ })
 
 pub store-m-requires : goal.store-m-requires
 store-m-requires c =

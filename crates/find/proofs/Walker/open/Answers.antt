@@ -4,13 +4,10 @@ use Rattle.find.proofs.Checks.{refused-so, answered-so}
 use Rattle.find.proofs.Walks.{starts_refused, starts_done}
 use Rattle.find.proofs.Walker.open.Goals as goal
 
-pub returns-then-number-ne0 : goal.returns-then-number-ne0
+pub returns-in-Err : goal.returns-in-Err
 unfolding start_on
-returns-then-number-ne0 c =
-    let one = c in
-    starts_refused _ _ _ _ _ _ c.not_started.ensures
-    (refused-so one.in_range.ensures one.first_refusal-number.ensures _ one.if-number-ne0.true)
+returns-in-Err c = starts_refused _ _ _ _ _ _ c.not_started.ensures (refused-so c.in_range.ensures c.first_refusal.ensures _ c.in-Err.is)
 
 pub returns : goal.returns
 unfolding start_on
-returns c = starts_done _ _ _ _ (answered-so c.in_range.ensures c.first_refusal-number.ensures _ c.if-number-ne0.false)
+returns c = starts_done _ _ _ _ (answered-so c.in_range.ensures c.first_refusal.ensures _ c.in_default.is)

@@ -13,21 +13,17 @@ use Rattle.host.proofs.stretches.add_known.Goals as goal
 
 pub add_to-kept-requires : goal.add_to-kept-requires
 add_to-kept-requires c =
-    let b = c in
-    let row = b.args.row.now in
+    let a = c.args in
     let s = c.settings_in-s.ensures in
-    let w = row-kept_in row _ b.requires.0 s (facts_sketch _ b.requires.1) in
-    (rw c.kept_in-mine.ensures w, ap (λ (t : Settings). in_range t b.args.lo b.args.hi) (s ∙ sym (settings-of_row row)) ∙ b.requires.2)
+    let w = row-kept_in a.sketch.now _ c.told-sketch s (facts_sketch _ c.requires.0) in
+    (rw c.kept_in-mine.ensures w, ap (λ (t : Settings). in_range t a.lo a.hi) (s ∙ sym (settings-of_row a.sketch.now)) ∙ c.requires.1)
 
 pub returns : goal.returns
 returns c =
-    let b = c in
-    let a = b.args in
-    let row = a.row.now in
+    let a = c.args in
     let s = c.settings_in-s in
     let add = c.add_to-kept in
-    let kept =
-    adds-kept row s.ensures c.kept_in-mine.ensures a.lo a.hi add.ensures in
+    let kept = adds-kept a.sketch.now c.told-sketch s.ensures c.kept_in-mine.ensures a.lo a.hi add.ensures in
     c.put_head.ensures
-    ∙ ap (λ (cells : List ℕ). sketch_row (held s.result add.result.level add.result.count cells)) (cells_lent row _ b.requires.0)
+    ∙ ap (λ (cells : List ℕ). sketch_row (held s.result add.result.level add.result.count cells)) (cells_lent a.sketch.now _ c.told-sketch)
     ∙ ap sketch_row kept

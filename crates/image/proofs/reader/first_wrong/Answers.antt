@@ -1,28 +1,17 @@
--- `image::reader::first_wrong` meets its contract: a search that has passed right checks only. Assumes nothing.
-use mathlib.Core.Bool.{not}
-use native.Mathlib.Omega.{arith}
-use Rattle.layout.proofs.Turns.{wrong_start, wrong_here, wrong_later, wrong_none, block_length}
-use mathlib.Core.Bool.{not}
-use mathlib.Core.Path.{ap}
+-- `image::reader::first_wrong` meets its contract: the place of the first block whose check is wrong. Assumes nothing.
+use Rattle.std.proofs.Common.{◌≡◌, ◌/◌, length, ◌∙◌, arith, rules, tests}
+use Rattle.std.proofs.lemmas.Iterator.Splits.{YieldsList-from_shown_while}
+use Rattle.std.proofs.lemmas.Iterator.Search.{position_from_yields_List}
+use Rattle.std.specs.Simd.{first_chunks}
+use Rattle.std.specs.Slice.Iter.{chunks_exact_rest, chunks_exact_size, chunks_exact_steps}
+use Rattle.layout.proofs.Turns.{bad, cuts_end, cuts_turn, wrong_found}
 use Rattle.image.proofs.reader.first_wrong.Goals as goal
 
-pub loop-i-init : goal.loop-i-init
-loop-i-init c = (omega arith, wrong_start c.args.s.now)
-
-pub good-requires : goal.good-requires
-good-requires c = block_length c.loop-i.i c.args.s.now (omega arith)
-
-pub returns-then-not-good : goal.returns-then-not-good
-returns-then-not-good c =
-    let l = c.loop-i in
-    let s = c.args.s.now in
-    wrong_here s l.i l.invariant.1 _ c.good.ensures (ap not c.if-not-good.true)
-
-pub loop-i-preserved : goal.loop-i-preserved
-loop-i-preserved c =
-    let l = c.loop-i in
-    let s = c.args.s.now in
-    (omega arith, wrong_later s l.i l.invariant.1 _ c.good.ensures (omega arith) (ap not c.if-not-good.false))
-
 pub returns : goal.returns
-returns c = wrong_none c.args.s.now c.loop-i.i c.loop-i.invariant.1 (omega arith)
+returns c =
+    let s = c.args.s.now in
+    let road =
+    YieldsList-from_shown_while chunks_exact_steps (λ y. y.now) (λ t. first_chunks 512 (length (chunks_exact_rest t) / 512) (chunks_exact_rest t)) (λ t. chunks_exact_size t ≡ 512)
+    (λ t u p h. cuts_end (chunks_exact_rest t) (omega (arith, h.1.0, p))) (λ t x u p h. (h.0 ∙ p, cuts_turn _ _ _ h.1.0 (h.1.1 ∙ p))) c.chunks_exact.result c.chunks_exact.ensures.size in
+    let h = position_from_yields_List bad _ _ c.position.result c.position.ensures.ran road (λ x b q k. search (rules, tests)) in
+    wrong_found s _ (rw c.chunks_exact.ensures.rest at h)

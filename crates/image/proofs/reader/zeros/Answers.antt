@@ -1,19 +1,17 @@
--- `image::reader::zeros` meets its contract: the bytes passed are zero just when the test still holds. Assumes nothing.
-use mathlib.Core.Path.{refl}
-use native.Mathlib.Omega.{arith}
+-- `image::reader::zeros` meets its contract: a fold by `and` is the test. Assumes nothing.
+use Rattle.std.proofs.Common.{ℕ, ◌≡◌, Bool, true, ◌&&◌, List, [], ◌∷◌, eqb, fold, sym, ◌∙◌, rules, tests}
+use mathlib.Core.Bool.{and-true, and_assoc}
+use Rattle.std.proofs.lemmas.Iterator.{YieldsList-from_slice}
+use Rattle.std.proofs.lemmas.Iterator.Consumers.{fold_from_yields_List}
 use Rattle.lists.specs.Rows.{all_zero}
-use Rattle.rows.proofs.Walks.{test_on, test_end}
 use Rattle.image.proofs.reader.zeros.Goals as goal
 
-pub loop-i-init : goal.loop-i-init
-loop-i-init c = (omega arith, refl)
-
-pub loop-i-preserved : goal.loop-i-preserved
-loop-i-preserved c =
-    let l = c.loop-i in
-    (omega arith, test_on c.args.s.now l.i l.all _ all_zero l.invariant.1 c.loop-i-test.true _ all_zero refl)
+fold_zero : (a : Bool) (xs : List ℕ) → fold (λ a x. a && eqb x 0) a xs ≡ (a && all_zero xs)
+fold_zero a [] = sym (and-true a)
+fold_zero a (x ∷ xs) = fold_zero (a && eqb x 0) xs ∙ and_assoc a (eqb x 0) (all_zero xs)
 
 pub returns : goal.returns
 returns c =
-    let l = c.loop-i in
-    test_end c.args.s.now l.i l.all _ all_zero l.invariant.1 c.loop-i-test.false refl
+    fold_from_yields_List _ (λ a x. a && eqb x 0) true c.fold.result c.fold.ensures.ran (YieldsList-from_slice c.args.s.now cc)
+    (λ a x b q k. search (rules, tests))
+    ∙ fold_zero true c.args.s.now

@@ -9,23 +9,16 @@ use Rattle.layout.proofs.cells.copy_cells.Goals as goal
 
 pub loop-j-init : goal.loop-j-init
 unfolding numbers_in
-loop-j-init c = (omega arith, refl, refl)
-
-pub loop-j-smaller : goal.loop-j-smaller
-loop-j-smaller c = rw length-set (omega arith)
+loop-j-init c = (refl, refl)
 
 pub loop-j-preserved : goal.loop-j-preserved
 loop-j-preserved c =
     let l = c.loop-j in
-    let n = length-set l.row l.j c.number_at.result in (
-      omega arith,
-      omega arith,
-      copy_more l.row c.args.s.now l.j _ (omega arith) c.number_at.ensures.0 l.invariant.2,
-    )
+    (length-set l.row l.j c.number_at.result ∙ l.invariant.0, copy_more l.row c.args.s.now l.j _ (omega arith) c.number_at.ensures.0 l.invariant.1)
 
 pub returns : goal.returns
 returns c =
     let l = c.loop-j in
     let a = c.args in
     let e : l.j ≡ length a.row.now = omega arith in
-    sym (take_all l.j l.row c.loop-j-test.false) ∙ l.invariant.2 ∙ ap (λ n. numbers_in n (drop 4 a.s.now)) e
+    sym (take_all l.j l.row (omega arith)) ∙ l.invariant.1 ∙ ap (λ n. numbers_in n (drop 4 a.s.now)) e

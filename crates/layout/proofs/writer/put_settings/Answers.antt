@@ -10,19 +10,14 @@ use Rattle.layout.proofs.writer.put_settings.Goals as goal
 pub returns : goal.returns
 unfolding settings_bytes bytes_of
 returns c =
-    let fifth = c in
-    let fourth = fifth in
-    let third = fourth in
-    let second = third in
-    let first = second in
-    let a = first.args in
+    let a = c.args in
     let row = a.s.now in
     let n = bytes_of 4 a.settings.n in
     let p = bytes_of 4 a.settings.p in
     let q = bytes_of 4 a.settings.a in
     let b = bytes_of 4 a.settings.b in
-    let s2 = put_next row 4 8 n p (omega arith) refl first.put_number.ensures second.put_number-2.ensures in
-    let s3 = put_next row 4 12 (n ++ p) q (omega arith) refl s2 third.put_number-3.ensures in
-    let s4 = put_next row 4 16 (n ++ p ++ q) b (omega arith) refl s3 fourth.put_number-4.ensures in
+    let s2 = put_next row 4 8 n p (omega arith) refl c.put_number.ensures c.put_number-2.ensures in
+    let s3 = put_next row 4 12 (n ++ p) q (omega arith) refl s2 c.put_number-3.ensures in
+    let s4 = put_next row 4 16 (n ++ p ++ q) b (omega arith) refl s3 c.put_number-4.ensures in
     put_next row 4 20 (n ++ p ++ q ++ b) (bytes_of 2 a.settings.capacity) (omega arith) refl s4
-    (fifth.put_word.ensures ∙ word-placed fourth.put_number-4.new.s 20 a.settings.capacity)
+    (c.put_word.ensures ∙ word-placed c.put_number-4.new.s 20 a.settings.capacity)

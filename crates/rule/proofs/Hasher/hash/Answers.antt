@@ -9,38 +9,38 @@ use Rattle.rule.proofs.Fractions.{Divided, divided}
 use Rattle.rule.proofs.Hasher.hash.Goals as goal
 
 -- the numbers of the code, in the order a, b, p, x and the two fractions
-known : (c : goal.After-wide-4)
-    → Divided c.wide-3.result c.wide-4.result c.wide-p.result
-    c.wide-cell.result c.wide.result c.wide-2.result
+known : (c : goal.After-from-4)
+    → Divided c.from-3.result c.from-4.result c.from-p.result
+    c.from-cell.result c.from.result c.from-2.result
 known c =
     let g = c.requires in
-    divided c.wide-3.result c.wide-4.result c.wide-p.result
-    c.wide-cell.result c.wide.result c.wide-2.result (omega arith)
+    divided c.from-3.result c.from-4.result c.from-p.result
+    c.from-cell.result c.from.result c.from-2.result (omega arith)
     (omega arith) (omega arith) (rw (
-      c.wide.ensures.0,
-      c.wide-3.ensures.0,
-      c.wide-p.ensures.0,
+      c.from.ensures,
+      c.from-3.ensures,
+      c.from-p.ensures,
     ) (ap (λ h. h.slope) g.made))
-    (rw (c.wide-2.ensures.0, c.wide-4.ensures.0, c.wide-p.ensures.0)
+    (rw (c.from-2.ensures, c.from-4.ensures, c.from-p.ensures)
     (ap (λ h. h.start) g.made))
 
 pub overflow_mul-q : goal.overflow_mul-q
-overflow_mul-q c = omega (arith, product_fits c.wide.result c.wide-cell.result 0 (omega arith) (omega arith) (omega arith))
+overflow_mul-q c = omega (arith, product_fits c.from.result c.from-cell.result 0 (omega arith) (omega arith) (omega arith))
 
 pub overflow_add-q : goal.overflow_add-q
 overflow_add-q c = omega (
   arith,
-  product_fits c.wide.result c.wide-cell.result c.wide-2.result (omega arith) (omega arith)
+  product_fits c.from.result c.from-cell.result c.from-2.result (omega arith) (omega arith)
       (omega arith),
 )
 
 pub overflow_mul-left : goal.overflow_mul-left
-overflow_mul-left c = omega (arith, product_fits c.wide-3.result c.wide-cell.result 0 (omega arith) (omega arith) (omega arith))
+overflow_mul-left c = omega (arith, product_fits c.from-3.result c.from-cell.result 0 (omega arith) (omega arith) (omega arith))
 
 pub overflow_add-left : goal.overflow_add-left
 overflow_add-left c = omega (
   arith,
-  product_fits c.wide-3.result c.wide-cell.result c.wide-4.result (omega arith)
+  product_fits c.from-3.result c.from-cell.result c.from-4.result (omega arith)
       (omega arith) (omega arith),
 )
 
@@ -48,8 +48,8 @@ pub overflow_mul-left-2 : goal.overflow_mul-left-2
 overflow_mul-left-2 c = omega (
   arith,
   (known c).low,
-  product_fits c.wide-3.result c.wide-cell.result
-      c.wide-4.result (omega arith) (omega arith) (omega arith),
+  product_fits c.from-3.result c.from-cell.result
+      c.from-4.result (omega arith) (omega arith) (omega arith),
 )
 
 pub overflow_sub-left : goal.overflow_sub-left
@@ -69,15 +69,15 @@ overflow_cast-result c = omega (
   arith,
   (known c).rest,
   mod-lt
-      (c.wide-3.result * c.wide-cell.result + c.wide-4.result)
-      {m = c.wide-p.result} (omega arith),
+      (c.from-3.result * c.from-cell.result + c.from-4.result)
+      {m = c.from-p.result} (omega arith),
 )
 
 pub returns : goal.returns
 unfolding hash
 returns c = (known c).rest ∙ simp (
-  c.wide-cell.ensures.0,
-  c.wide-p.ensures.0,
-  c.wide-3.ensures.0,
-  c.wide-4.ensures.0,
+  c.from-cell.ensures,
+  c.from-p.ensures,
+  c.from-3.ensures,
+  c.from-4.ensures,
 )

@@ -4,4 +4,4 @@ use Rattle.rule.proofs.Settings.passes.Goals as goal
 
 pub returns : goal.returns
 unfolding passes
-returns c = simp (c.hash.ensures, c.region.ensures, c.wide.ensures.0)
+returns c = simp (c.hash.ensures, c.region.ensures, c.from.ensures)

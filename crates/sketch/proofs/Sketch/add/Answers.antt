@@ -9,21 +9,19 @@ use Rattle.sketch.proofs.Sketch.add.Goals as goal
 pub added-next-requires : goal.added-next-requires
 added-next-requires c =
     let a = c.args in
-    let g = add_granted _ a.self.settings a.lo a.hi (sym (ap of_answer c.in-Done.is) ∙ c.add_answer-answer.ensures) in
+    let g = add_granted _ a.self.settings a.lo a.hi (sym (ap of_answer c.in-Ok.is) ∙ c.add_answer.ensures) in
     (sketch_facts a.self (sym c.good.ensures ∙ g.0), g.1)
 
-pub returns-in-Done : goal.returns-in-Done
-returns-in-Done c =
-    let asked = c in
-    let a = asked.args in
-    let said = sym (ap of_answer c.in-Done.is) ∙ asked.add_answer-answer.ensures in
-    let told = add-told a.self a.lo a.hi asked.good.ensures said in
+pub returns-in-Ok : goal.returns-in-Ok
+returns-in-Ok c =
+    let a = c.args in
+    let said = sym (ap of_answer c.in-Ok.is) ∙ c.add_answer.ensures in
+    let told = add-told a.self a.lo a.hi c.good.ensures said in
     hands_done _ _ _ _ (sym told) (c.done.ensures ∙ ap done_with c.added-next.ensures)
 
-pub returns-in-Refused : goal.returns-in-Refused
-returns-in-Refused c =
-    let asked = c in
-    let a = asked.args in
-    let said = sym (ap of_answer c.in-Refused.is) ∙ asked.add_answer-answer.ensures in
-    let told = add-told a.self a.lo a.hi asked.good.ensures said in
+pub returns-in-Err : goal.returns-in-Err
+returns-in-Err c =
+    let a = c.args in
+    let said = sym (ap of_answer c.in-Err.is) ∙ c.add_answer.ensures in
+    let told = add-told a.self a.lo a.hi c.good.ensures said in
     hands_refused _ _ _ _ _ (sym told) c.refuse.ensures

@@ -8,27 +8,24 @@ use Rattle.sketch.proofs.Sketch.merge.Goals as goal
 
 pub merged-both-requires : goal.merged-both-requires
 merged-both-requires c =
-    let asked = c in
-    let a = asked.args in
-    let said = sym (ap of_answer c.in-Done.is) ∙ asked.merge_answer-answer.ensures in
+    let a = c.args in
+    let said = sym (ap of_answer c.in-Ok.is) ∙ c.merge_answer.ensures in
     let g = merge_granted _ _ a.self.settings a.other.settings said in (
-      sketch_facts a.self (sym asked.good.ensures ∙ g.0),
-      sketch_facts a.other (sym asked.good-2.ensures ∙ g.1),
+      sketch_facts a.self (sym c.good.ensures ∙ g.0),
+      sketch_facts a.other (sym c.good-2.ensures ∙ g.1),
       g.2,
     )
 
-pub returns-in-Done : goal.returns-in-Done
-returns-in-Done c =
-    let asked = c in
-    let a = asked.args in
-    let said = sym (ap of_answer c.in-Done.is) ∙ asked.merge_answer-answer.ensures in
-    let told = merge-told a.self a.other asked.good.ensures asked.good-2.ensures said in
+pub returns-in-Ok : goal.returns-in-Ok
+returns-in-Ok c =
+    let a = c.args in
+    let said = sym (ap of_answer c.in-Ok.is) ∙ c.merge_answer.ensures in
+    let told = merge-told a.self a.other c.good.ensures c.good-2.ensures said in
     hands_done _ _ _ _ (sym told) (c.done.ensures ∙ ap done_with c.merged-both.ensures)
 
-pub returns-in-Refused : goal.returns-in-Refused
-returns-in-Refused c =
-    let asked = c in
-    let a = asked.args in
-    let said = sym (ap of_answer c.in-Refused.is) ∙ asked.merge_answer-answer.ensures in
-    let told = merge-told a.self a.other asked.good.ensures asked.good-2.ensures said in
+pub returns-in-Err : goal.returns-in-Err
+returns-in-Err c =
+    let a = c.args in
+    let said = sym (ap of_answer c.in-Err.is) ∙ c.merge_answer.ensures in
+    let told = merge-told a.self a.other c.good.ensures c.good-2.ensures said in
     hands_refused _ _ _ _ _ (sym told) c.refuse.ensures

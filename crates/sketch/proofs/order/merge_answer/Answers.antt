@@ -9,16 +9,12 @@ returns-then-not-mine c = let a = c.args in merge_unknown a.mine a.its a.s a.t c
 pub returns-then-not-its : goal.returns-then-not-its
 returns-then-not-its c = let a = c.args in merge_other a.mine a.its a.s a.t c.if-not-mine.false c.if-not-its.true
 
-pub returns-then-not-same_settings : goal.returns-then-not-same_settings
-returns-then-not-same_settings c =
+pub returns-then-eq : goal.returns-then-eq
+returns-then-eq c =
     let a = c.args in
-    let mine = c.if-not-mine.false in
-    let its = c.if-not-its.false in
-    merge-unequal a.mine a.its a.s a.t mine its (denied _ _ c.same_settings.ensures c.if-not-same_settings.true)
+    merge_done a.mine a.its a.s a.t c.if-not-mine.false c.if-not-its.false (granted _ _ c.eq.ensures c.if-eq.true)
 
-pub returns : goal.returns
-returns c =
+pub returns-else-eq : goal.returns-else-eq
+returns-else-eq c =
     let a = c.args in
-    let mine = c.if-not-mine.false in
-    let its = c.if-not-its.false in
-    merge_done a.mine a.its a.s a.t mine its (granted _ _ c.same_settings.ensures c.if-not-same_settings.false)
+    merge-unequal a.mine a.its a.s a.t c.if-not-mine.false c.if-not-its.false (denied _ _ c.eq.ensures c.if-eq.false)

@@ -1,9 +1,0 @@
--- `host::open_in` meets its contract: what opening hands back crosses. Assumes nothing.
-use Rattle.host.proofs.Outcomes.{given}
-use Rattle.host.proofs.open_in.Goals as goal
-
-pub returns : goal.returns
-returns c =
-    given (c.number_of.ensures, c.put_sketch.ensures)
-    (rw c.settings_in.ensures at
-    c.open-opened.ensures)
