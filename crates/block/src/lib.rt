@@ -82,7 +82,8 @@ pub fn sums_of(s: &[u8]) -> Sums
     }
 }
 
-// Whether the block's two stored words are its sums.
+// Whether the block's two stored words are its sums. A block is lent as a part of an image: as an array
+// of 512 bytes it would have to be cut out of it at each call, and no writer could be promised the rest.
 #[tactic(auto, unfolding(crate::specs::Sums::block_good))]
 pub fn good(s: &[u8]) -> bool
     requires { length s.now ≡ 512 }

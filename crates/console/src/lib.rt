@@ -56,6 +56,7 @@ fn write_some<W: Write>(output: &mut W, bytes: &[u8]) -> io::Result<usize>
 // Writes all of the bytes. std's `write_all` has other words for a write that takes none of them.
 fn write_all<W: Write>(output: &mut W, bytes: &[u8]) -> io::Result<()> {
     let mut rest = bytes;
+    // A turn goes on by as many bytes as the writer took, and not by one or by a chunk.
     while !rest.is_empty() {
         let some = write_some(output, rest)?;
         if some == 0 {
@@ -71,14 +72,15 @@ fn serve_piece<W: Write>(
     output: &mut W,
     evening: Evening,
     input: &[u8],
-    out: &mut [u8],
+    out: &mut [u8; PIECE],
 ) -> io::Result<Evening>
-    requires { Sitting evening × (40 ≤ length out.old) }
+    requires { Sitting evening }
     ensures evening { IfOk result (λ e. e ≡ served evening input.now) }
     ensures sitting { IfOk result Sitting }
 {
     let mut s = evening;
     let mut rest = input;
+    // A turn goes on by as many bytes as were fed.
     while !rest.is_empty() {
         let fed = evening::feed(s, rest, out);
         write_all(output, &out[..fed.written])?;
@@ -89,8 +91,8 @@ fn serve_piece<W: Write>(
 }
 
 // Answers a last line without a newline.
-fn serve_rest<W: Write>(output: &mut W, evening: Evening, out: &mut [u8]) -> io::Result<()>
-    requires { Sitting evening × (40 ≤ length out.old) }
+fn serve_rest<W: Write>(output: &mut W, evening: Evening, out: &mut [u8; PIECE]) -> io::Result<()>
+    requires { Sitting evening }
 {
     let n = evening::finish(evening, out);
     write_all(output, &out[..n])
@@ -101,10 +103,8 @@ fn serve_rest<W: Write>(output: &mut W, evening: Evening, out: &mut [u8]) -> io:
 fn serve_all<R: Read, W: Write>(
     input: &mut R,
     output: &mut W,
-    out: &mut [u8],
-) -> Result<(), Failure>
-    requires { 40 ≤ length out.old }
-{
+    out: &mut [u8; PIECE],
+) -> Result<(), Failure> {
     let mut piece = [0u8; PIECE];
     let mut s = evening::begin();
     for _ in 0..u64::MAX {

@@ -17,7 +17,7 @@ ghost use Rattle.count.specs.Cuts.{Cut};
 struct Rounds {
     // the first foot
     foot: u64,
-    // the feet's difference, at most half of d, and whether they go down by it
+    // the feet's difference, at most half of d, and whether they go down by it: a sign of it
     step: u64,
     down: bool,
     // a whole round has one element more below l where its foot is below this

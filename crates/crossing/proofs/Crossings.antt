@@ -20,6 +20,7 @@ use Rattle.find.specs.Walking.{no_walker}
 use Rattle.sketch.specs.declared.Sketch.{Sketch}
 use Rattle.sketch.specs.Sketches.{held, sketch_at, kept_of, is_sketch}
 use Rattle.sketch.specs.Calls.{no_sketch}
+use Rattle.settle.specs.declared.Kept.{Kept}
 use Rattle.settle.specs.Settling.{KeptRow}
 use Rattle.sketch.proofs.Facts.{sketch_facts}
 use Rattle.sketch.proofs.Handing.{row_kept}
@@ -110,10 +111,10 @@ behind_seven row e =
     ap (λ (n : ℕ). take n (drop 7 row)) left ∙ part_rest row 7
 
 -- a sketch's parts, as the code lends them
-pub parts_in : (row : List ℕ) (s : Settings) → length row ≡ 511 → s ≡ settings_from row
-    → held s (get_or row 5 0) (get_or row 6 0) (take 504 (drop 7 row)) ≡ sketch_in row
+pub parts_in : (row : List ℕ) {s : Settings} {kept : Kept} → length row ≡ 511 → s ≡ settings_from row → kept ≡ kept_of (sketch_in row)
+    → held s kept.level kept.count (take 504 (drop 7 row)) ≡ sketch_in row
 unfolding sketch_in
-parts_in row s e q = rw (q, behind_seven row e)
+parts_in row e q k = rw (q, k, behind_seven row e)
 
 -- and where they are a sketch's: cells kept at its level, and zeros after them
 pub row-kept_in : (row : List ℕ) (s : Settings) → length row ≡ 511 → s ≡ settings_from row → is_sketch (sketch_in row) ≡ true

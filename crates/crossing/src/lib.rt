@@ -2,7 +2,7 @@
 #![tactic(auto)]
 
 ghost use Rattle.std.specs.Prelude.{◌≡◌, ◌≤◌, length, drop};
-ghost use Rattle.sketch.specs.Sketches.{held, is_sketch, kept_of};
+ghost use Rattle.sketch.specs.Sketches.{held, held_of, is_sketch, kept_of};
 ghost use Rattle.crossing.specs.Crossing.{settings_from, sketch_in, sketch_row, walker_in, walker_row};
 
 pub mod told;
@@ -10,6 +10,7 @@ pub mod told;
 use find::Walker;
 use rule::Settings;
 use settle::Kept;
+use sketch::lent::Lent;
 
 // The lengths of the rows.
 pub const SETTINGS: usize = 5;
@@ -18,7 +19,8 @@ pub const SKETCH: usize = 511;
 
 pub const WALKER: usize = 8;
 
-// The settings that a row begins with.
+// The settings that a row begins with. Functions and no `From`, here and below: settings and walkers are
+// other crates' types, and rows are std's.
 pub fn settings_in(row: &[u32]) -> Settings
     requires { 5 ≤ length row.now }
     ensures { result ≡ settings_from row.now }
@@ -32,13 +34,6 @@ pub fn settings_in(row: &[u32]) -> Settings
     }
 }
 
-// Is the row a sketch's? It is looked at where it stands.
-pub fn is_sketch(row: &[u32; SKETCH]) -> bool
-    ensures { result ≡ is_sketch (sketch_in row.now) }
-{
-    sketch::is_sketch(settings_in(row), row[5], row[6], &row[7..])
-}
-
 // The level, and how many cells are kept.
 pub fn kept_in(row: &[u32; SKETCH]) -> Kept
     ensures { result ≡ kept_of (sketch_in row.now) }
@@ -47,6 +42,26 @@ pub fn kept_in(row: &[u32; SKETCH]) -> Kept
         level: row[5],
         count: row[6],
     }
+}
+
+// The sketch of a row, lent where it stands.
+pub fn sketch_lent(row: &[u32; SKETCH]) -> Lent<'_>
+    ensures { held_of result ≡ sketch_in row.now }
+{
+    let kept = kept_in(row);
+    Lent {
+        settings: settings_in(row),
+        level: kept.level,
+        count: kept.count,
+        cells: &row[7..],
+    }
+}
+
+// Is the row a sketch's?
+pub fn is_sketch(row: &[u32; SKETCH]) -> bool
+    ensures { result ≡ is_sketch (sketch_in row.now) }
+{
+    sketch_lent(row).good()
 }
 
 // Stores the seven numbers before the cells.
@@ -63,12 +78,11 @@ pub fn put_head(row: &mut [u32; SKETCH], s: Settings, level: u32, count: u32)
 }
 
 // Stores a whole sketch.
-pub fn put_sketch(row: &mut [u32; SKETCH], s: Settings, level: u32, count: u32, cells: &[u32])
-    requires { length cells.now ≡ 504 }
-    ensures { row.new ≡ sketch_row (held s level count cells.now) }
+pub fn put_sketch(row: &mut [u32; SKETCH], sketch: Lent<'_>)
+    ensures { row.new ≡ sketch_row (held_of sketch.entry) }
 {
-    stores::store(row, 7, cells);
-    put_head(row, s, level, count);
+    stores::store(row, 7, sketch.cells);
+    put_head(row, sketch.settings, sketch.level, sketch.count);
 }
 
 pub fn walker_in(row: &[u32; WALKER]) -> Walker

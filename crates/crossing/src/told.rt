@@ -56,7 +56,7 @@ pub struct ToldDouble {
     pub value: f64,
 }
 
-// The number of a refusal, 0 where there is none.
+// The number of a refusal, 0 where there is none: from one type of std to another, so no `From`.
 pub fn number_of(answer: Result<(), Refusal>) -> u32
     ensures { result ≡ told_number (of_answer answer) }
 {

@@ -24,7 +24,8 @@ const ROOM: usize = 40;
 pub type Pot = Option<Sketch>;
 
 // The pot, and the line so far: its first bytes, in fixed memory. The places after them hold what is
-// left of earlier lines.
+// left of earlier lines. That what is open is a sketch stands in contracts and in no ghost field: the
+// theorems on whole runs make evenings as plain records.
 #[derive(Clone, Copy)]
 pub struct Evening {
     pub pot: Pot,
@@ -108,7 +109,7 @@ pub fn answer(pot: &mut Pot, text: &[u8], out: &mut [u8], at: usize) -> usize
 }
 
 // Takes bytes of a piece of the input until it ends, or until an answer might not have room. The
-// pot is touched only where a line ends.
+// pot is touched only where a line ends. How many were taken is part of what is answered.
 pub fn feed(evening: Evening, input: &[u8], out: &mut [u8]) -> Fed
     requires { Sitting evening }
     ensures { Feeds evening input.now out.old out.new result }

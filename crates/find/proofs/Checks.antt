@@ -1,7 +1,6 @@
 -- The laws of the tests that come before an answer.
 --     denied, granted     what a call's promise says where its answer was tested
 --     and_parts           two tests that hold together
---     settings-first, level_second, range_third, none_left    the refusals 1, 3, 2 in this order, and then none
 --     at_told, unless-told, all_told     an answer says that the tests held
 --     refused-so, answered-so, all_held    what its refusal, or that there is none, says of a call
 --     range_facts     a range's test as facts
@@ -16,7 +15,6 @@ use lib.Dec.{leb}
 use borrow.Author.Tests.{leb-true}
 use Rattle.std.specs.Prelude.{Result, Ok, Err}
 use Rattle.rule.specs.declared.refusals.Refusal.{Refusal}
-use Rattle.rule.specs.declared.refusals.Refusal.TheVariants as refusal
 use Rattle.rule.specs.declared.Settings.{Settings}
 use Rattle.rule.specs.Rule.{is_good, top}
 use Rattle.rule.specs.Refusals.{Paper, answered, refused, unless, unless_at, number_of, bad_settings, bad_level, bad_range}
@@ -33,19 +31,6 @@ granted t d e n = sym e ∙ n
 pub and_parts : (t u : Bool) → (t && u) ≡ true → (t ≡ true) × (u ≡ true)
 and_parts true u e = (refl, e)
 and_parts false u e = absurd (false≢true e)
-
--- the refusal that the tests in order give
-pub settings-first : (s : Settings) (level : ℕ) (t : Bool) → is_good s ≡ false → Refuses s level t (Err refusal.Settings)
-settings-first s level t g = record { so = λ x. cc }
-
-pub level_second : (s : Settings) (level : ℕ) (t : Bool) → is_good s ≡ true → leb level (top s) ≡ false → Refuses s level t (Err refusal.Level)
-level_second s level t g l = record { so = λ x. cc }
-
-pub range_third : (s : Settings) (level : ℕ) (t : Bool) → is_good s ≡ true → leb level (top s) ≡ true → t ≡ false → Refuses s level t (Err refusal.Range)
-range_third s level t g l r = record { so = λ x. cc }
-
-pub none_left : (s : Settings) (level : ℕ) (t : Bool) → is_good s ≡ true → leb level (top s) ≡ true → t ≡ true → Refuses s level t (Ok tt)
-none_left s level t g l r = record { so = λ x. cc }
 
 pub at_told : (t : Bool) (number place : ℕ) (x : Paper) (values : List ℕ) → unless_at t number place x ≡ answered values → (t ≡ true) × (x ≡ answered values)
 at_told true number place x values e = (refl, e)

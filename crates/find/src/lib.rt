@@ -46,6 +46,8 @@ fn progression(settings: Settings, level: u32, lo: u32, hi: u32) -> Hashes
     }
 }
 
+// The four numbers stay parameters, as the public calls have them; `Within` says what is known of them.
+
 // How many cells of lo..hi pass: at level 0 all of them. Else their hashes are taken in the direction
 // whose difference is at most half of p.
 pub fn count_in(settings: Settings, level: u32, lo: u32, hi: u32) -> u32
@@ -78,8 +80,7 @@ pub fn first_in(settings: Settings, level: u32, lo: u32, hi: u32) -> Option<u32>
     Some((u64::from(lo) + i) as u32)
 }
 
-// The refusal of a call on settings, where there is one. `inside` says whether the call's range is
-// right.
+// Whether a call on settings is refused, and with what. `inside` says whether the call's range is right.
 fn first_refusal(settings: Settings, level: u32, inside: bool) -> Result<(), Refusal>
     ensures { Refuses settings level inside result }
 {
@@ -120,7 +121,8 @@ pub struct Walker {
     pub hi: u32,
 }
 
-// A refusal hands a walker back too, so the answer stands beside it.
+// A refusal hands a walker back too, so the answer stands beside it. Two structs: an opening and a step
+// differ in what they answer, and each has a promise of its own that names its fields.
 #[derive(Clone, Copy)]
 pub struct Started {
     pub answer: Result<(), Refusal>,

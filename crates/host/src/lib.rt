@@ -16,13 +16,14 @@ use crossing::told::{
     ToldBlock, ToldCell, ToldDouble, ToldLength, ToldPlace, ToldValue, number_of,
 };
 use crossing::{
-    SETTINGS, SKETCH, WALKER, is_sketch, kept_in, put_head, put_sketch, settings_in, walker_in,
-    walker_row,
+    SETTINGS, SKETCH, WALKER, is_sketch, kept_in, put_head, put_sketch, settings_in, sketch_lent,
+    walker_in, walker_row,
 };
 use find::Walker;
 use plain::adding::{add_answer as plain_answer, fill};
 use row::{Stretch, row_answer};
 use settle::merge_to;
+use sketch::lent::Lent;
 use sketch::order::{add_answer, merge_answer};
 use sketch::{PLACES, Sketch};
 use stretches::{add_each_in, add_known};
@@ -32,12 +33,12 @@ pub fn pot_open(settings: &[u32; SETTINGS], sketch: &mut [u32; SKETCH]) -> u32
     ensures { Opens settings.now result sketch.new }
 {
     let opened = Sketch::open(settings_in(settings));
-    let k = opened.sketch;
-    put_sketch(sketch, k.settings, k.level, k.count, &k.cells);
+    put_sketch(sketch, opened.sketch.lent());
     number_of(opened.answer)
 }
 
-// Adds to the row lent, or leaves it with a refusal.
+// Adds to the row lent, or leaves it with a refusal. This call and the two like it end alike, but each
+// does its own work before: one function over closures would be no plainer.
 pub fn pot_add(sketch: &mut [u32; SKETCH], lo: u32, hi: u32) -> u32
     ensures { Adds sketch.old lo hi result sketch.new }
 {
@@ -59,7 +60,13 @@ pub fn pot_plain_add(sketch: &mut [u32; SKETCH], lo: u32, hi: u32) -> u32
         Ok(()) => {
             let mut out = [0u32; PLACES];
             let kept = fill(&mut out, s, kept_in(sketch), &sketch[7..], lo, hi);
-            put_sketch(sketch, s, kept.level, kept.count, &out);
+            let next = Lent {
+                settings: s,
+                level: kept.level,
+                count: kept.count,
+                cells: &out,
+            };
+            put_sketch(sketch, next);
             0
         }
         Err(refusal) => refusal.into(),
@@ -100,7 +107,13 @@ pub fn pot_merge(sketch: &mut [u32; SKETCH], other: &[u32; SKETCH]) -> u32
             let its = kept_in(other);
             let mut out = [0u32; 2 * PLACES];
             let kept = merge_to(&mut out, s, kept_in(sketch), &sketch[7..], its, &other[7..]);
-            put_sketch(sketch, s, kept.level, kept.count, &out[..PLACES]);
+            let both = Lent {
+                settings: s,
+                level: kept.level,
+                count: kept.count,
+                cells: &out[..PLACES],
+            };
+            put_sketch(sketch, both);
             0
         }
         Err(refusal) => refusal.into(),
@@ -110,7 +123,8 @@ pub fn pot_merge(sketch: &mut [u32; SKETCH], other: &[u32; SKETCH]) -> u32
 pub fn pot_estimate(sketch: &[u32; SKETCH]) -> ToldDouble
     ensures { Weighs (estimate_on (sketch_in sketch.now)) result.number result.exact result.value }
 {
-    sketch::estimate_of(settings_in(sketch), sketch[5], sketch[6], &sketch[7..]).into()
+    let k = sketch_lent(sketch);
+    k.estimate().into()
 }
 
 pub fn pot_count(settings: &[u32; SETTINGS], level: u32, lo: u32, hi: u32) -> ToldValue
@@ -150,14 +164,7 @@ pub fn pot_walker_next(walker: &mut [u32; WALKER]) -> ToldCell
 pub fn pot_write(sketch: &[u32; SKETCH], room: &mut [u8]) -> ToldLength
     ensures { WritesOut (sketch_in sketch.now) room.old result.number result.length room.new }
 {
-    image::write_from(
-        settings_in(sketch),
-        sketch[5],
-        sketch[6],
-        &sketch[7..],
-        room,
-    )
-    .into()
+    image::write_from(sketch_lent(sketch), room).into()
 }
 
 // Reads an image straight into the row lent, which is all zeros after a refusal.

@@ -20,7 +20,8 @@ pub fn add_known(sketch: &mut [u32; SKETCH], lo: u32, hi: u32)
     put_head(sketch, s, kept.level, kept.count);
 }
 
-// Adds each in turn.
+// Adds each in turn: the loop of `row::add_each` on the numbers lent, since a sketch by value would be
+// copied at each stretch.
 pub fn add_each_in(sketch: &mut [u32; SKETCH], row: &[Stretch])
     requires { AddsAll (sketch_in sketch.old) row.now }
     ensures { sketch.new ≡ sketch_row (add_all (sketch_in sketch.old) row.now) }

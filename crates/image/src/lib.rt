@@ -2,13 +2,14 @@
 #![tactic(auto)]
 
 ghost use Rattle.std.specs.Prelude.{◌≡◌, length};
-ghost use Rattle.sketch.specs.Sketches.{held};
+ghost use Rattle.sketch.specs.Sketches.{held_of};
 ghost use Rattle.image.specs.Calls.{Writes, Reads, loaded_with};
 
 use layout::writer::put_image;
 use layout::{BLOCK, blocks_for};
 use rule::Settings;
 use rule::refusals::{ReadError, Refusal};
+use sketch::lent::Lent;
 use sketch::{Changed, PLACES, Sketch};
 
 mod reader;
@@ -22,26 +23,24 @@ pub struct Header {
 }
 
 // Writes the image at the start of the room, and leaves what follows it untouched: answers the
-// image's length. The sketch is lent by its parts: its row isn't copied.
-pub fn write_from(
-    settings: Settings,
-    level: u32,
-    count: u32,
-    cells: &[u32],
-    room: &mut [u8],
-) -> Result<usize, Refusal>
-    requires { length cells.now ≡ 504 }
-    ensures { Writes (held settings level count cells.now) room.old result room.new }
+// image's length.
+pub fn write_from(sketch: Lent<'_>, room: &mut [u8]) -> Result<usize, Refusal>
+    ensures { Writes (held_of sketch.entry) room.old result room.new }
 {
-    if !sketch::is_sketch(settings, level, count, cells) {
+    if !sketch.good() {
         return Err(Refusal::NotOne);
     }
-    let n = count as usize;
+    let n = sketch.count as usize;
     let len = BLOCK * (1 + blocks_for(n));
     if room.len() < len {
         return Err(Refusal::NoRoom);
     }
-    put_image(&mut room[0..len], settings, level, &cells[..n]);
+    put_image(
+        &mut room[0..len],
+        sketch.settings,
+        sketch.level,
+        &sketch.cells[..n],
+    );
     Ok(len)
 }
 
@@ -49,13 +48,7 @@ pub fn write_from(
 pub fn write(sketch: Sketch, room: &mut [u8]) -> Result<usize, Refusal>
     ensures { Writes sketch room.old result room.new }
 {
-    write_from(
-        sketch.settings,
-        sketch.level,
-        sketch.count,
-        &sketch.cells,
-        room,
-    )
+    write_from(sketch.lent(), room)
 }
 
 // Reads an image, and leaves the sketch's cells in the row lent, or zeros with a refusal. It tests
@@ -84,18 +77,12 @@ pub fn read(bytes: &[u8]) -> Changed<ReadError>
 {
     let mut cells = [0u32; PLACES];
     match read_into(bytes, &mut cells) {
-        Ok(header) => Changed {
-            answer: Ok(()),
-            sketch: Sketch {
-                settings: header.settings,
-                level: header.level,
-                count: header.count,
-                cells,
-            },
-        },
-        Err(error) => Changed {
-            answer: Err(error),
-            sketch: sketch::no_sketch(),
-        },
+        Ok(header) => Changed::done(Sketch {
+            settings: header.settings,
+            level: header.level,
+            count: header.count,
+            cells,
+        }),
+        Err(error) => Changed::refused(error, sketch::no_sketch()),
     }
 }

@@ -12,6 +12,7 @@ use layout::cells::{copy_all, number_at};
 use layout::{BLOCK, CONTENT, FIELDS_END, FULL, LARGEST, MARK, blocks_for};
 use rule::Settings;
 use rule::refusals::ReadError;
+use sketch::lent::Lent;
 
 // No turn branches, as `all` would, so that the loop runs on whole vectors. Of bytes: what `rows::zeros`
 // does on numbers of 32 bits would need a trait of its own, for two lines.
@@ -57,7 +58,8 @@ pub fn has_mark(s: &[u8]) -> bool
     number_at(s, 0) == MARK
 }
 
-// Whether a cell block has this number, holds so many cells, and has zeros after them.
+// Whether a cell block, a part of the image, has this number, holds so many cells, and has zeros after
+// them.
 fn block_shaped(s: &[u8], number: usize, many: usize) -> bool
     requires { (length s.now ≡ 512) × (many ≤ 126) }
     ensures { result ≡ block_shaped number many s.now }
@@ -122,7 +124,13 @@ pub fn read_marked(s: &[u8], cells: &mut [u32]) -> Result<Header, ReadError>
     let level = u32::from(block::word_at(s, 22));
     let count = u32::from(block::word_at(s, 24));
     copy_all(cells, &s[BLOCK..], count as usize);
-    if !sketch::is_sketch(settings, level, count, cells) {
+    let sketch = Lent {
+        settings,
+        level,
+        count,
+        cells,
+    };
+    if !sketch.good() {
         cells.fill(0);
         return Err(fault(s));
     }

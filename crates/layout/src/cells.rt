@@ -6,7 +6,8 @@ ghost use Rattle.layout.specs.Images.{blocks_for, numbers_in, cells_in};
 
 use crate::{BLOCK, FULL};
 
-// The number in the four bytes at `at`.
+// The number in the four bytes at `at`. As block's words: `from_le_bytes` and `to_le_bytes` are each
+// type's own, so that one function for both would need a trait, for one line.
 #[tactic(auto, using(crate::proofs::Fields::number_four))]
 pub fn number_at(s: &[u8], at: usize) -> u32
     requires { at + 4 ≤ length s.now }
@@ -15,8 +16,8 @@ pub fn number_at(s: &[u8], at: usize) -> u32
     u32::from_le_bytes([s[at], s[at + 1], s[at + 2], s[at + 3]])
 }
 
-// Copies the cells of a cell block, as many as the row has places: by index, since nothing is known of places that an
-// iterator has lent to be written.
+// Copies the cells of a cell block, as many as the row has places: by index, since nothing is known of places that a
+// chain of iterators has lent to be written.
 fn copy_cells(row: &mut [u32], s: &[u8])
     requires { 4 + 4 * length row.old ≤ length s.now }
     ensures { row.new ≡ numbers_in (length row.old) (drop 4 s.now) }

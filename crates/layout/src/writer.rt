@@ -8,7 +8,7 @@ ghost use Rattle.layout.specs.Images.{mark, settings_bytes, head_with, body_of, 
 use crate::{BLOCK, FULL, MARK};
 use rule::Settings;
 
-// Stores a number in the four bytes at `at`.
+// Stores a number in the four bytes at `at`, as block's words are stored.
 #[tactic(auto, using(crate::proofs::Puts::number_over))]
 fn put_number(s: &mut [u8], at: usize, x: u32)
     requires { at + 4 ≤ length s.old }
@@ -29,7 +29,7 @@ fn put_settings(s: &mut [u8], settings: Settings)
     block::put_word(s, 20, settings.capacity as u16);
 }
 
-// Block 0.
+// Block 0, a part of the room, as each block.
 fn put_head(s: &mut [u8], settings: Settings, level: u16, count: u16)
     requires { (length s.old ≡ 512) × (settings.capacity < 65536) }
     ensures { s.new ≡ sealed (head_with mark [] settings level count) }

@@ -16,7 +16,8 @@ pub mod commands;
 // The bytes of the longest line.
 pub const LONGEST: usize = 64;
 
-// A word as a number: digits, at least one, and no 0 before another.
+// A word as a number: digits, at least one, and no 0 before another. std's `parse` takes a + and zeros
+// before a digit.
 #[tactic(auto, using(crate::proofs::Words::begun_none, crate::proofs::Words::begun_other, crate::proofs::Words::begun_large))]
 fn read_number(word: &[u8]) -> Option<u32>
     ensures { result ≡ number word.now }
@@ -35,7 +36,8 @@ fn read_number(word: &[u8]) -> Option<u32>
     Some(v)
 }
 
-// The numbers after the letter, one space before each, up to the line's end.
+// The numbers after the letter, one space before each, up to the line's end. Their count is part of what
+// is answered.
 fn read_numbers(rest: &[u8]) -> Option<Numbers>
     ensures { result ≡ row_of (numbers_after rest.now) }
 {
@@ -94,7 +96,8 @@ pub fn command(line: &[u8]) -> Option<Command>
     shape(*letter, read_numbers(rest)?)
 }
 
-// The number of decimal digits.
+// The number of decimal digits. By division as the definition has it: std's `ilog10` is of numbers above
+// 0, and promises powers.
 fn width(x: u64) -> usize
     ensures { result ≡ length (decimal x) }
 {
@@ -122,7 +125,8 @@ pub fn put_number(out: &mut [u8], at: usize, x: u64) -> usize
     end
 }
 
-// Some bytes.
+// Some bytes. Each of these takes the place to store at and answers the place after it: what std's
+// writers promise is where they stand, and not what stands before and after it.
 fn put_bytes(out: &mut [u8], at: usize, bytes: &[u8]) -> usize
     requires { at + length bytes.now ≤ length out.old }
     ensures { Stored out.old at bytes.now result out.new }

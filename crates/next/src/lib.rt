@@ -22,7 +22,8 @@ const NO_HIT: Hit = Hit { index: 0, round: 0 };
 // difference a - r. As y is below l where l - 1 - y is, its mirror with the difference r has the same
 // hits. The lesser difference is taken, so that the modulus at least halves from the next call on.
 // Only a hit at an index i with i * w < b is asked for. An element here stands for at least w elements
-// of the first call, so that this cuts the search to that call's n elements without a division.
+// of the first call, so that this cuts the search to that call's n elements without a division. The
+// six numbers stay in registers: a struct of them goes through memory at each call, which was slower.
 fn search(p: u64, a: u64, u: u64, l: u64, w: u64, b: u64) -> Hit
     requires { Searched p a u l w }
     ensures { Least p a u l w b result.index result.round }
@@ -63,7 +64,8 @@ fn search(p: u64, a: u64, u: u64, l: u64, w: u64, b: u64) -> Hit
     NO_HIT
 }
 
-// The least i below n for which u + i * a, modulo p, lies below l, where there is one.
+// The least i below n for which u + i * a, modulo p, lies below l, where there is one. The five numbers
+// are the paper's.
 pub fn next_hit(p: u64, a: u64, u: u64, l: u64, n: u64) -> Option<u64>
     requires progression { Progression p a u }
     requires n_bound { n ≤ 4000000000 }

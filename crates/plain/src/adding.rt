@@ -15,7 +15,8 @@ use rule::Settings;
 use rule::refusals::Refusal;
 use settle::Kept;
 
-// To adding lo..hi, where it is known whether something with these settings is a sketch.
+// To adding lo..hi, where it is known whether something with these settings is a sketch: the settings
+// are there whatever it is.
 pub fn add_answer(known: bool, settings: Settings, lo: u32, hi: u32) -> Result<(), Refusal>
     ensures { of_answer result ≡ plain_add_when known settings lo hi }
 {
@@ -74,6 +75,7 @@ impl Adding<'_> {
     }
 
     // Stores the sample at the level in a row, from its first place on, and answers how many cells it has.
+    // Only a cell of the sample takes a place, so the places are counted.
     fn gather(&self, level: u32, out: &mut [u32]) -> usize
         requires { length (sample self.now.settings (cells_of self.now) level) ≤ length out.old }
         ensures { Stored out.old 0 (sample self.now.settings (cells_of self.now) level) result out.new }

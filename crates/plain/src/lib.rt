@@ -28,7 +28,7 @@ pub fn is_small(settings: Settings) -> bool
     settings.n <= LIMIT
 }
 
-// This test and the order below are this engine's own: of the first it takes the settings' test, the
+// This test and the orders of refusals, here and in `adding`, are this engine's own: of the first it takes the settings' test, the
 // hash and what a sketch is, as the rules have it, and nothing else.
 
 // lo..hi are cells, and lo is not above hi.
@@ -38,8 +38,8 @@ fn in_range(settings: Settings, lo: u32, hi: u32) -> bool
     (1 <= lo) & ((lo <= hi) & (hi <= settings.n))
 }
 
-// The refusal of a count or of a next hit, where there is one. `inside` says whether the call's range
-// is right.
+// Whether a count or a next hit is refused, and with what. `inside` says whether the call's range is
+// right.
 fn refusal(settings: Settings, level: u32, inside: bool) -> Result<(), Refusal>
     ensures { PlainRefuses settings level inside result }
 {
@@ -65,7 +65,7 @@ pub fn counts(settings: Settings, level: u32, x: u32) -> u32
     if settings.passes(level, x) { 1 } else { 0 }
 }
 
-// What the cells of lo..hi count together.
+// What the cells of lo..hi count together: a loop that one can follow on paper, as docs/KITCHEN.md does.
 fn count_each(settings: Settings, level: u32, lo: u32, hi: u32) -> u32
     requires { hi ≤ limit }
     ensures { result ≡ range_count settings level lo hi }
@@ -127,14 +127,8 @@ pub fn add(sketch: Sketch, lo: u32, hi: u32) -> Changed<Refusal>
     match add_answer(sketch.good(), sketch.settings, lo, hi) {
         Ok(()) => {
             let next = added(sketch, lo, hi);
-            Changed {
-                answer: Ok(()),
-                sketch: next,
-            }
+            Changed::done(next)
         }
-        Err(refusal) => Changed {
-            answer: Err(refusal),
-            sketch,
-        },
+        Err(refusal) => Changed::refused(refusal, sketch),
     }
 }

@@ -16,7 +16,7 @@ use Rattle.find.proofs.Checks.{and_parts, at_told, unless-told}
 use Rattle.sketch.specs.declared.Sketch.{Sketch}
 use Rattle.sketch.specs.declared.Changed.{Changed}
 use Rattle.sketch.specs.Sketches.{is_sketch, add}
-use Rattle.sketch.specs.Calls.{add_on}
+use Rattle.sketch.specs.Calls.{add_on, done_with, refused_with}
 use Rattle.sketch.proofs.Facts.{sketch_facts}
 use Rattle.sketch.proofs.Handing.{add_in}
 use Rattle.sketch.proofs.Results.{add_again}
@@ -71,11 +71,11 @@ takes_all k ts e q =
     record { sound = sketch_facts k h.0; good = h.1 }
 
 module _ (paper : Paper) (next old : Sketch) (r : Changed RowError) where
-  pub row_done : paper ≡ answered [] → r.answer ≡ Ok tt → r.sketch ≡ next → HandsRow paper next old r
-  row_done e a k = record { answer = cc; sketch = cc }
+  pub row_done : paper ≡ answered [] → r ≡ done_with next → HandsRow paper next old r
+  row_done e k = record { answer = cc; sketch = cc }
 
-  pub row_refused : (error : RowError) → paper ≡ of_row (Err error) → r.answer ≡ Err error → r.sketch ≡ old → HandsRow paper next old r
-  row_refused error e a k = record { answer = cc; sketch = cc }
+  pub row_refused : (error : RowError) → paper ≡ of_row (Err error) → r ≡ refused_with error old → HandsRow paper next old r
+  row_refused error e k = record { answer = cc; sketch = cc }
 
 -- two outcomes that the promise allows coincide
 pub row_tight : (paper : Paper) (next old : Sketch) (x y : Changed RowError) → HandsRow paper next old x → HandsRow paper next old y → x ≡ y

@@ -35,7 +35,7 @@ fn first_bad(settings: Settings, row: &[Stretch]) -> Option<usize>
 }
 
 // In which order a row is refused, where its first bad place is known: it is said here, and nowhere
-// else.
+// else. `known` is the answer of a test, as in `row_answer`.
 fn judged(known: bool, bad: Option<usize>) -> Result<(), RowError>
     ensures { of_row result ≡ judged_at known bad }
 {
@@ -48,7 +48,8 @@ fn judged(known: bool, bad: Option<usize>) -> Result<(), RowError>
     }
 }
 
-// To adding a row, where it is known whether something with these settings is a sketch.
+// To adding a row, where it is known whether something with these settings is a sketch: the settings
+// are there whatever it is.
 pub fn row_answer(known: bool, settings: Settings, row: &[Stretch]) -> Result<(), RowError>
     ensures { of_row result ≡ row_when known settings row.now }
 {
@@ -72,14 +73,8 @@ pub fn add_row(sketch: Sketch, row: &[Stretch]) -> Changed<RowError>
     ensures { HandsRow (row_on sketch row.now) (add_all sketch row.now) sketch result }
 {
     match row_answer(sketch.good(), sketch.settings, row) {
-        Ok(()) => Changed {
-            answer: Ok(()),
-            sketch: add_each(sketch, row),
-        },
-        Err(error) => Changed {
-            answer: Err(error),
-            sketch,
-        },
+        Ok(()) => Changed::done(add_each(sketch, row)),
+        Err(error) => Changed::refused(error, sketch),
     }
 }
 

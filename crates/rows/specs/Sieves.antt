@@ -9,6 +9,6 @@ use Rattle.rows.specs.declared.sieve.Sieve.{Sieve}
 unfoldable pub sifted : Sieve → Cells
 sifted v x = ltb (hash v.hasher.settings x) v.size
 
--- they are those that pass at a level
+-- they are those that pass at a level: the two sets are one
 abbrev pub Sifts : Settings → ℕ → Sieve → Type 0
-Sifts s level v = (x : ℕ) → sifted v x ≡ passes s level x
+Sifts s level v = sifted v ≡ passes s level

@@ -4,7 +4,8 @@
 ghost use Rattle.std.specs.Prelude.{◌≡◌, true, ◌+◌, ◌-◌, length};
 ghost use Rattle.lists.specs.Lists.{filter};
 ghost use Rattle.lists.specs.Rows.{all_zero};
-ghost use Rattle.rule.specs.Rule.{Good, passes};
+ghost use Rattle.rule.specs.Rule.{Good};
+ghost use Rattle.rows.specs.Sieves.{sifted};
 ghost use Rattle.rows.specs.Walked.{cells_below, Ascending, all_in, in_order, rises_from};
 
 pub mod sieve;
@@ -13,7 +14,7 @@ use rule::Settings;
 use sieve::Sieve;
 
 // The cells of the row rise strictly from above 0, and each is at most n and passes at the level.
-// At level 0 every cell passes, and no hash is asked for.
+// At level 0 every cell passes, and no hash is asked for. Good settings are asked for, as by `hasher`.
 pub fn rises(settings: Settings, level: u32, row: &[u32]) -> bool
     requires { Good settings }
     ensures { result ≡ rises_from settings level 0 row.now }
@@ -22,7 +23,7 @@ pub fn rises(settings: Settings, level: u32, row: &[u32]) -> bool
     if level == 0 {
         return ordered;
     }
-    ordered & all_pass(settings, level, row)
+    ordered & all_pass(Sieve::of(settings, level), row)
 }
 
 // The three tests below leave no loop early, so that each turn is alike and the loop runs on vectors.
@@ -40,12 +41,10 @@ fn in_order(n: u32, row: &[u32]) -> bool
     all
 }
 
-// Every cell of the row passes at the level.
-fn all_pass(settings: Settings, level: u32, row: &[u32]) -> bool
-    requires { Good settings }
-    ensures { result ≡ all_in (passes settings level) row.now }
+// Every cell of the row passes the sieve.
+fn all_pass(sieve: Sieve, row: &[u32]) -> bool
+    ensures { result ≡ all_in (sifted sieve) row.now }
 {
-    let sieve = Sieve::of(settings, level);
     let mut all = true;
     for &x in row {
         all = all & sieve.passes(x);
@@ -71,12 +70,11 @@ pub fn below(row: &[u32], x: u32) -> usize
     row.partition_point(|&y| y < x)
 }
 
-// How many cells of the row pass at the level.
-pub fn count_passing(settings: Settings, level: u32, row: &[u32]) -> usize
-    requires { Good settings }
-    ensures { result ≡ length (filter (passes settings level) row.now) }
+// How many cells of the row pass the sieve: a sum in a loop, as the three tests above are, each of whose
+// turns is alike.
+pub fn count_passing(sieve: Sieve, row: &[u32]) -> usize
+    ensures { result ≡ length (filter (sifted sieve) row.now) }
 {
-    let sieve = Sieve::of(settings, level);
     let mut many: usize = 0;
     for &x in row {
         if sieve.passes(x) {

@@ -16,6 +16,7 @@ impl Sieve {
     ghost use Rattle.std.specs.Prelude.{◌≡◌};
     ghost use Rattle.rows.specs.Sieves.{Sifts, sifted};
 
+    // Good settings are asked for here, once for all that a sieve tests.
     pub fn of(settings: Settings, level: u32) -> Sieve
         requires { Good settings }
         ensures { Sifts settings level result }

@@ -35,7 +35,8 @@ pub struct Hasher {
 
 // The greatest common divisor of two odd numbers, without a division. A common divisor is odd, so
 // it divides the difference with its halvings taken out. There are as many of these as x and y
-// have equal lowest bits, so they are counted beside the subtraction, not after it.
+// have equal lowest bits, so they are counted beside the subtraction, not after it. The loop counts no
+// turns: it ends where the two are equal.
 fn odd_divisor(a: u32, p: u32) -> u32
     requires { (a % 2 ≡ 1) × (p % 2 ≡ 1) }
     ensures { result ≡ common_divisor a p }
@@ -114,7 +115,9 @@ impl Settings {
         whole % p
     }
 
-    // For the hashes of many cells.
+    // For the hashes of many cells. Any settings may come to a call, which tests them before it makes
+    // something of them: so good ones are asked for here. To fewer bits by `as`, here and elsewhere: std
+    // has no `From` for it, and each number is proved to fit.
     pub fn hasher(self) -> Hasher
         requires { Good self }
         ensures { result ≡ hasher_of self }

@@ -64,7 +64,8 @@ impl From<ReadError> for Refusal {
 }
 
 impl ReadError {
-    // The block of a wrong check, 0 elsewhere.
+    // The block of a wrong check. A number and no Option, here and below: by the rules what a refusal
+    // doesn't name is 0.
     pub fn block(self) -> u32
         ensures { result ≡ block_of self }
     {

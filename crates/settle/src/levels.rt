@@ -6,6 +6,7 @@ ghost use Rattle.rule.specs.Samples.{fits, lowest};
 ghost use Rattle.settle.specs.Settling.{cells_of};
 
 use crate::parts::Parts;
+use rows::sieve::Sieve;
 
 // A level for so many cells, of which each level keeps about half: by the length of the numbers.
 fn guessed(level: u32, many: usize, capacity: usize, top: u32) -> u32
@@ -31,8 +32,9 @@ impl<'a> Parts<'a> {
         if capacity < hits {
             return false;
         }
-        let before = rows::count_passing(self.settings, level, self.front);
-        let after = rows::count_passing(self.settings, level, self.back);
+        let sieve = Sieve::of(self.settings, level);
+        let before = rows::count_passing(sieve, self.front);
+        let after = rows::count_passing(sieve, self.back);
         hits + before + after <= capacity
     }
 

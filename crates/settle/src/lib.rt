@@ -15,12 +15,15 @@ mod levels;
 mod parts;
 
 use parts::Parts;
+use rows::sieve::Sieve;
 use rule::Settings;
 
 // The places of the row that cells are kept in.
 pub const PLACES: usize = rule::GREATEST_CAPACITY as usize;
 
-// A level, and how many cells are kept at it: they stand in the first places of a row.
+// A level, and how many cells are kept at it: they stand in the first places of a row, which is lent
+// beside it. This is also what adding and merging answer, of a row that they fill, so the row isn't in
+// the struct.
 #[derive(Clone, Copy)]
 pub struct Kept {
     pub level: u32,
@@ -29,6 +32,7 @@ pub struct Kept {
 
 // Stores those of a row's cells that pass at the level, from place `at` on, and answers the place
 // after them. All of them pass at the level `own`: there none is hashed.
+// Each call makes its sieve: one made for both rows of `gathered`, and lacking at `own`, was slower.
 fn store_at(
     out: &mut [u32],
     at: usize,
@@ -44,7 +48,7 @@ fn store_at(
     if own == level {
         return stores::store(out, at, cells);
     }
-    stores::store_passing(out, at, settings, level, cells)
+    stores::store_passing(out, at, Sieve::of(settings, level), cells)
 }
 
 impl<'a> Parts<'a> {
@@ -128,7 +132,8 @@ fn thinned(out: &mut [u32], settings: Settings, level: u32, many: usize) -> Kept
         back: &[],
     };
     let l = parts.above(level, many);
-    let count = stores::keep_passing(out, many, settings, l) as u32;
+    let sieve = Sieve::of(settings, l);
+    let count = stores::keep_passing(out, many, sieve) as u32;
     Kept { level: l, count }
 }
 

@@ -35,11 +35,11 @@ unfoldable pub merge_on : Sketch → Sketch → Paper
 merge_on j k = merge_when (is_sketch j) j.settings (is_sketch k) k.settings
 
 -- an answer with the sketch beside it
-abbrev pub done_with : Sketch → Changed Refusal
+abbrev pub done_with : {E : Type 0} → Sketch → Changed E
 done_with k = record { answer = Ok record {}; sketch = k }
 
-abbrev pub refused_with : Refusal → Sketch → Changed Refusal
-refused_with refusal k = record { answer = Err refusal; sketch = k }
+abbrev pub refused_with : {E : Type 0} → E → Sketch → Changed E
+refused_with error k = record { answer = Err error; sketch = k }
 
 -- the sketch handed back: the next one, or the old one with a refusal
 abbrev pub handed : Paper → Sketch → Sketch → Sketch

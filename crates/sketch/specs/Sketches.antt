@@ -8,11 +8,16 @@ use Rattle.rule.specs.Rule.{Good, is_good, passes, top, all}
 use Rattle.rule.specs.Samples.{sample, lowest}
 use Rattle.rows.specs.Walked.{rises_from}
 use Rattle.sketch.specs.declared.Sketch.{Sketch}
+use Rattle.sketch.specs.declared.lent.Lent.{Lent}
 use Rattle.settle.specs.declared.Kept.{Kept}
 
 -- a sketch from its parts, whatever they are
 abbrev pub held : Settings → ℕ → ℕ → List ℕ → Sketch
 held s level count cells = record { settings = s; level = level; count = count; cells = cells }
+
+-- a sketch that is lent, read where it stands
+abbrev pub held_of : Lent → Sketch
+held_of k = held k.settings k.level k.count k.cells.now
 
 -- the sketch that keeps these cells at a level, with zeros in the unused places: the one maker of sketches
 unfoldable pub sketch_at : Settings → ℕ → List ℕ → Sketch

@@ -1,9 +1,9 @@
 // The sketch, by value: is it one, opening, adding, merging, the estimate.
 #![tactic(auto)]
 
-ghost use Rattle.std.specs.Prelude.{◌≡◌, true, ◌^◌, ◌≤◌, length};
+ghost use Rattle.std.specs.Prelude.{◌≡◌, true, ◌^◌, ◌≤◌};
 ghost use Rattle.find.specs.Finding.{in_range};
-ghost use Rattle.sketch.specs.Sketches.{held, is_sketch, kept_of, Sound, opened, add, merge};
+ghost use Rattle.sketch.specs.Sketches.{held_of, is_sketch, kept_of, Sound, opened, add, merge};
 ghost use Rattle.sketch.specs.Calls.{Hands, done_with, refused_with, no_sketch, open_on, add_on, merge_on};
 ghost use Rattle.sketch.specs.Estimates.{times_p, stands_at, float_at, Estimates};
 
@@ -11,9 +11,11 @@ use rule::Settings;
 use rule::refusals::Refusal;
 
 pub mod estimates;
+pub mod lent;
 pub mod order;
 
 use estimates::Estimate;
+use lent::Lent;
 use settle::Kept;
 
 // The places of a sketch's row.
@@ -36,21 +38,23 @@ pub struct Changed<E> {
     pub sketch: Sketch,
 }
 
-fn done(sketch: Sketch) -> Changed<Refusal>
-    ensures { result ≡ done_with sketch }
-{
-    Changed {
-        answer: Ok(()),
-        sketch,
+impl<E> Changed<E> {
+    pub fn done(next: Sketch) -> Changed<E>
+        ensures { result ≡ done_with next }
+    {
+        Changed {
+            answer: Ok(()),
+            sketch: next,
+        }
     }
-}
 
-fn refuse(refusal: Refusal, sketch: Sketch) -> Changed<Refusal>
-    ensures { result ≡ refused_with refusal sketch }
-{
-    Changed {
-        answer: Err(refusal),
-        sketch,
+    pub fn refused(error: E, kept: Sketch) -> Changed<E>
+        ensures { result ≡ refused_with error kept }
+    {
+        Changed {
+            answer: Err(error),
+            sketch: kept,
+        }
     }
 }
 
@@ -64,24 +68,6 @@ pub fn no_sketch() -> Sketch
         count: 0,
         cells: [0; PLACES],
     }
-}
-
-// Is it a sketch? Asked of its parts where they stand: the row isn't copied. The unused places are
-// looked at first, as the processor goes through them while it works on the divisor.
-pub fn is_sketch(settings: Settings, level: u32, count: u32, cells: &[u32]) -> bool
-    requires { length cells.now ≡ 504 }
-    ensures { result ≡ is_sketch (held settings level count cells.now) }
-{
-    let n = count as usize;
-    if PLACES < n {
-        return false;
-    }
-    let unused = rows::zeros(&cells[n..]);
-    if !settings.good() {
-        return false;
-    }
-    (count <= settings.capacity)
-        & (settings.has_level(level) & (rows::rises(settings, level, &cells[..n]) & unused))
 }
 
 fn times_p(settings: Settings, count: u32) -> u64
@@ -110,33 +96,31 @@ fn float_at(settings: Settings, level: u32, count: u32) -> f64
     floats::over(times_p(settings, count), u64::from(settings.region(level)))
 }
 
-pub fn estimate_of(settings: Settings, level: u32, count: u32, cells: &[u32]) -> Estimate
-    requires { length cells.now ≡ 504 }
-    ensures { Estimates (held settings level count cells.now) result }
-{
-    if !is_sketch(settings, level, count, cells) {
-        return Estimate::Refused(Refusal::NotOne);
-    }
-    if level == 0 {
-        return Estimate::Exact(count);
-    }
-    Estimate::About(float_at(settings, level, count))
-}
-
 impl Sketch {
+    pub fn lent(&self) -> Lent<'_>
+        ensures { held_of result ≡ self.now }
+    {
+        Lent {
+            settings: self.settings,
+            level: self.level,
+            count: self.count,
+            cells: &self.cells,
+        }
+    }
+
     pub fn good(self) -> bool
         ensures { result ≡ is_sketch self }
     {
-        is_sketch(self.settings, self.level, self.count, &self.cells)
+        self.lent().good()
     }
 
     pub fn open(settings: Settings) -> Changed<Refusal>
         ensures { Hands (open_on settings) (opened settings) no_sketch result }
     {
         if !settings.good() {
-            return refuse(Refusal::Settings, no_sketch());
+            return Changed::refused(Refusal::Settings, no_sketch());
         }
-        done(Sketch {
+        Changed::done(Sketch {
             settings,
             level: 0,
             count: 0,
@@ -175,9 +159,9 @@ impl Sketch {
         match order::add_answer(self.good(), self.settings, lo, hi) {
             Ok(()) => {
                 let next = self.added(lo, hi);
-                done(next)
+                Changed::done(next)
             }
-            Err(refusal) => refuse(refusal, self),
+            Err(refusal) => Changed::refused(refusal, self),
         }
     }
 
@@ -213,15 +197,15 @@ impl Sketch {
         match order::merge_answer(self.good(), self.settings, other.good(), other.settings) {
             Ok(()) => {
                 let both = self.merged(other);
-                done(both)
+                Changed::done(both)
             }
-            Err(cause) => refuse(cause, self),
+            Err(cause) => Changed::refused(cause, self),
         }
     }
 
     pub fn estimate(self) -> Estimate
         ensures { Estimates self result }
     {
-        estimate_of(self.settings, self.level, self.count, &self.cells)
+        self.lent().estimate()
     }
 }

@@ -1,12 +1,15 @@
-// Cells stored in a row. A row is lent, and what stands after what is stored stays.
+// Cells stored in a row. A row is lent whole, and what stands after what is stored stays. Each function
+// takes the place to store at and answers the place after it: contracts speak of the row before and
+// after, which std's writers don't.
 #![tactic(auto)]
 
 ghost use Rattle.std.specs.Prelude.{◌≡◌, true, ◌+◌, ◌-◌, ◌≤◌, length, take, replicate};
 ghost use Rattle.std.proofs.Math.Seq.{slice};
 ghost use Rattle.lists.specs.Lists.{filter, range};
 ghost use Rattle.lists.specs.Rows.{union, Stored};
-ghost use Rattle.rule.specs.Rule.{Good, passes};
+ghost use Rattle.rule.specs.Rule.{passes};
 ghost use Rattle.rule.specs.Samples.{range_count};
+ghost use Rattle.rows.specs.Sieves.{sifted};
 ghost use Rattle.find.specs.Finding.{Within};
 
 use rows::sieve::Sieve;
@@ -25,18 +28,12 @@ pub fn store(out: &mut [u32], at: usize, row: &[u32]) -> usize
     at + row.len()
 }
 
-// The same for those that pass at the level.
-pub fn store_passing(
-    out: &mut [u32],
-    at: usize,
-    settings: Settings,
-    level: u32,
-    row: &[u32],
-) -> usize
-    requires { Good settings × (at + length (filter (passes settings level) row.now) ≤ length out.old) }
-    ensures { Stored out.old at (filter (passes settings level) row.now) result out.new }
+// The same for those that pass the sieve. Only a cell that passes takes a place, so the places are
+// counted.
+pub fn store_passing(out: &mut [u32], at: usize, sieve: Sieve, row: &[u32]) -> usize
+    requires { at + length (filter (sifted sieve) row.now) ≤ length out.old }
+    ensures { Stored out.old at (filter (sifted sieve) row.now) result out.new }
 {
-    let sieve = Sieve::of(settings, level);
     let mut next = at;
     for &x in row {
         if sieve.passes(x) {
@@ -77,7 +74,8 @@ fn store_along(
     next
 }
 
-// The same for the cells of lo..hi that pass at the level; the caller has counted them.
+// The same for the cells of lo..hi that pass at the level; the caller has counted them. The four numbers
+// of a range stay parameters, as in `find`.
 pub fn store_hits(
     out: &mut [u32],
     at: usize,
@@ -106,7 +104,8 @@ pub fn store_hits(
     }
 }
 
-// Moves the cells from place `from` up to `end` down to place `at`; answers the place after them.
+// Moves the cells from place `from` up to `end` down to place `at`; answers the place after them. Of
+// std's copies this one is a loop, and no memmove.
 fn slide(out: &mut [u32], at: usize, from: usize, end: usize) -> usize
     requires { (at ≤ from) × (from ≤ end) × (end ≤ length out.old) }
     ensures { Stored out.old at (slice from end out.old) result out.new }
@@ -139,13 +138,13 @@ pub fn unite(out: &mut [u32], at: usize, end: usize, row: &[u32]) -> usize
     slide(out, m, j, end)
 }
 
-// Keeps, of the row's first `many` cells, those that pass at the level, at its start; answers how
-// many. In place: a cell is read before anything is stored there.
-pub fn keep_passing(out: &mut [u32], many: usize, settings: Settings, level: u32) -> usize
-    requires { Good settings × (many ≤ length out.old) }
-    ensures { Stored out.old 0 (filter (passes settings level) (take many out.old)) result out.new }
+// Keeps, of the row's first `many` cells, those that pass the sieve, at its start; answers how many.
+// In place: a cell is read before anything is stored there. The row is lent whole, since what stands
+// after those cells stays.
+pub fn keep_passing(out: &mut [u32], many: usize, sieve: Sieve) -> usize
+    requires { many ≤ length out.old }
+    ensures { Stored out.old 0 (filter (sifted sieve) (take many out.old)) result out.new }
 {
-    let sieve = Sieve::of(settings, level);
     let mut kept: usize = 0;
     for i in 0..many {
         let x = out[i];

@@ -16,7 +16,8 @@ pub struct Stride {
 
 impl Stride {
     // The least distance up to `far` after which a hash that grows by a, modulo p, with each cell
-    // has grown by less than `size`. Where there is none: one past `far`, with the change `size`.
+    // has grown by less than `size`. Where there is none: one past `far`, with the change `size`. A
+    // number and no Option, so that `next` needs no case for it: with this change no hit has room to move.
     fn least(p: u32, a: u32, size: u32, far: u32) -> Stride
         requires { (p ≤ 4000000000) × (a < p) × (far < 4000000000) }
         ensures { Shortest p a size far result }
@@ -56,6 +57,7 @@ pub struct Strides {
 }
 
 impl Strides {
+    // Of good settings, as a hasher.
     pub fn of(settings: Settings, level: u32, far: u32) -> Strides
         requires { Good settings × (far ≤ settings.n) }
         ensures { Striding settings level far result }
@@ -71,7 +73,8 @@ impl Strides {
     }
 
     // The next hit after one: where the hash can neither rise nor fall and stay in the region, it
-    // does both. Only the contract needs the settings, the level and `far`.
+    // does both. Only the contract needs the settings, the level and `far`, which the struct doesn't
+    // hold: with them in it a stride would be copied with what no turn reads.
     pub fn next(self, settings: Settings, level: u32, far: u32, hit: Hit) -> Hit
         requires { Good settings × Striding settings level far self × IsHit settings level hit × (hit.cell ≤ settings.n) × (far ≤ settings.n) }
         ensures { Next settings level far hit result }

@@ -9,7 +9,7 @@ use Rattle.crossing.proofs.put_sketch.Goals as goal
 
 pub returns : goal.returns
 returns c =
-    let a = c.args in
+    let k = c.args.sketch in
     c.put_head.ensures
-    ∙ ap (λ (l : List ℕ). sketch_row (held a.s a.level a.count l))
-    (cells-stored a.row.now a.cells.now c.told-row c.requires c.store.ensures)
+    ∙ ap (λ (l : List ℕ). sketch_row (held k.settings k.level k.count l))
+    (cells-stored c.args.row.now k.cells.now c.told-row k.places c.store.ensures)

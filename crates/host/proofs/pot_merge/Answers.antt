@@ -16,11 +16,11 @@ merge_to-kept-requires c =
     let i = row-kept_in c.args.other.now _ c.told-other (g.2 ∙ c.settings_in.ensures) (sym c.is_sketch-2.ensures ∙ g.1) in
     (rw c.kept_in.ensures m.held, rw c.kept_in-its.ensures i.held, refl)
 
-pub put_sketch-requires : goal.put_sketch-requires
-put_sketch-requires c = length-take-le 504 c.merge_to-kept.new.out (omega (arith, c.merge_to-kept.auto.out))
+pub slice_bounds-both-end : goal.slice_bounds-both-end
+slice_bounds-both-end c = sym (length-take-le 504 c.merge_to-kept.new.out (omega (arith, c.merge_to-kept.auto.out)))
 
-pub slice_bounds-put_sketch-end : goal.slice_bounds-put_sketch-end
-slice_bounds-put_sketch-end c = sym (put_sketch-requires c)
+pub invariant_of-both : goal.invariant_of-both
+invariant_of-both c = record { places = length-take-le 504 c.merge_to-kept.new.out (omega (arith, c.merge_to-kept.auto.out)) }
 
 pub returns-in-Ok : goal.returns-in-Ok
 returns-in-Ok c =

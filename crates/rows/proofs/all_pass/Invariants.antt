@@ -2,9 +2,9 @@
 use mathlib.Core.Path.{◌≡◌}
 use mathlib.Core.Bool.{◌&&◌}
 use lib.ListN.{drop}
-use Rattle.rule.specs.Rule.{passes}
+use Rattle.rows.specs.Sieves.{sifted}
 use Rattle.rows.specs.Walked.{all_in}
 use Rattle.rows.proofs.all_pass.Given as goal
 
 abbrev pub invariant-loop-x : goal.invariant-loop-x
-invariant-loop-x l = (l.all && all_in (passes l.fn.settings l.level) (drop l.x-index l.row)) ≡ all_in (passes l.fn.settings l.level) l.row
+invariant-loop-x l = (l.all && all_in (sifted l.sieve) (drop l.x-index l.row)) ≡ all_in (sifted l.sieve) l.row

@@ -3,8 +3,8 @@ use Prim.Native.Nat.{◌≤◌}
 use mathlib.Core.Path.{◌≡◌}
 use lib.ListN.{length, take}
 use Rattle.lists.specs.Lists.{filter}
-use Rattle.rule.specs.Rule.{passes}
+use Rattle.rows.specs.Sieves.{sifted}
 use Rattle.rows.proofs.count_passing.Given as goal
 
 abbrev pub invariant-loop-x : goal.invariant-loop-x
-invariant-loop-x l = (l.many ≤ l.x-index) × (l.many ≡ length (filter (passes l.fn.settings l.level) (take l.x-index l.row)))
+invariant-loop-x l = (l.many ≤ l.x-index) × (l.many ≡ length (filter (sifted l.sieve) (take l.x-index l.row)))

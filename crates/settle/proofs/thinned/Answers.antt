@@ -20,9 +20,11 @@ above-l-requires c = thins_room c.args.many c.args.out.now c.requires.0 c.requir
 pub overflow_cast-count : goal.overflow_cast-count
 overflow_cast-count c = omega (
   arith,
-  thins_few c.args.many c.args.out.now c.requires.0 c.requires.1 c.if-many-settings.false c.above-l.ensures c.keep_passing-count.ensures,
+  thins_few c.args.many c.args.out.now c.requires.0 c.requires.1 c.if-many-settings.false c.above-l.ensures
+      (rw c.of-sieve.ensures at c.keep_passing-count.ensures),
   c.requires.0.around.good.capacity_high,
 )
 
 pub returns : goal.returns
-returns c = thins_next c.args.many c.args.out.now c.requires.0 c.requires.1 c.if-many-settings.false c.above-l.ensures c.keep_passing-count.ensures
+returns c = thins_next c.args.many c.args.out.now c.requires.0 c.requires.1 c.if-many-settings.false c.above-l.ensures
+    (rw c.of-sieve.ensures at c.keep_passing-count.ensures)

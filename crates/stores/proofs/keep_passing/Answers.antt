@@ -2,7 +2,7 @@
 use mathlib.Core.Path.{sym, ◌∙◌}
 use native.Mathlib.Omega.{arith}
 use Rattle.lists.proofs.Stores.{stored_beyond}
-use Rattle.rule.specs.Rule.{passes}
+use Rattle.rows.specs.Sieves.{sifted}
 use Rattle.rows.proofs.Walks.{passing_on, passing_off}
 use Rattle.stores.proofs.keep_passing.Goals as goal
 use Rattle.stores.proofs.keep_passing.Goals.{then-passes, else-passes}
@@ -11,9 +11,9 @@ pub loop-i-preserved : goal.loop-i-preserved
 loop-i-preserved c =
     let a = c.args in
     let l = c.loop-i in
-    let X = passes a.settings a.level in
+    let X = sifted a.sieve in
     let read = stored_beyond l.invariant.1 (omega arith) l.i l.invariant.0 in
-    let test = sym (c.passes.ensures ∙ c.of-sieve.ensures _) in
+    let test = sym c.passes.ensures in
     elim c.if-passes.branch [
       | then-passes w ↦ (
         omega arith,

@@ -24,4 +24,4 @@ returns-in-Err c =
     let a = c.args in
     let said = sym (ap of_answer c.in-Err.is) ∙ c.add_answer.ensures in
     let told = add-told a.self a.lo a.hi c.good.ensures said in
-    hands_refused _ _ _ _ _ (sym told) c.refuse.ensures
+    hands_refused _ _ _ _ _ (sym told) c.refused.ensures

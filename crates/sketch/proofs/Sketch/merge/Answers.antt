@@ -28,4 +28,4 @@ returns-in-Err c =
     let a = c.args in
     let said = sym (ap of_answer c.in-Err.is) ∙ c.merge_answer.ensures in
     let told = merge-told a.self a.other c.good.ensures c.good-2.ensures said in
-    hands_refused _ _ _ _ _ (sym told) c.refuse.ensures
+    hands_refused _ _ _ _ _ (sym told) c.refused.ensures

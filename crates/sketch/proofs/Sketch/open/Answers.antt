@@ -10,7 +10,7 @@ use Rattle.sketch.proofs.Sketch.open.Goals as goal
 pub returns-then-not-good : goal.returns-then-not-good
 returns-then-not-good c =
     hands_refused _ _ _ Settings _ (open_bad _ (denied _ _ c.good.ensures c.if-not-good.true))
-    (c.refuse.ensures ∙ ap (refused_with Settings) c.no_sketch.ensures)
+    (c.refused.ensures ∙ ap (refused_with Settings) c.no_sketch.ensures)
 
 pub returns : goal.returns
 unfolding opened sketch_at

@@ -2,7 +2,7 @@
 use Prim.Native.Nat.{◌+◌, ◌≤◌}
 use native.Mathlib.Omega.{arith}
 use Rattle.lists.proofs.Filters.{filter-short}
-use Rattle.rule.specs.Rule.{passes}
+use Rattle.rows.specs.Sieves.{sifted}
 use Rattle.settle.proofs.Around.{fits-over, fits_sum}
 use Rattle.settle.proofs.parts.Parts.fits_at.Goals as goal
 use Rattle.settle.proofs.parts.Parts.fits_at.Goals.{After-count_passing-after}
@@ -18,8 +18,8 @@ small c =
       c.if-capacity-hits.false,
       c.count_passing-before.ensures,
       c.count_passing-after.ensures,
-      filter-short (passes w.settings c.args.level) w.front.now,
-      filter-short (passes w.settings c.args.level) w.back.now,
+      filter-short (sifted c.of-sieve.result) w.front.now,
+      filter-short (sifted c.of-sieve.result) w.back.now,
     )
 
 pub returns-then-capacity-hits : goal.returns-then-capacity-hits
@@ -33,4 +33,5 @@ overflow_add-result-2 c = omega (arith, small c)
 
 pub returns : goal.returns
 returns c =
-    fits_sum c.args.self.now.around c.args.level c.count_in-hits.ensures c.count_passing-before.ensures c.count_passing-after.ensures
+    fits_sum c.args.self.now.around c.args.level c.count_in-hits.ensures
+    (rw c.of-sieve.ensures at c.count_passing-before.ensures) (rw c.of-sieve.ensures at c.count_passing-after.ensures)
