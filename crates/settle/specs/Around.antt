@@ -1,4 +1,4 @@
--- Two rows and a range between them. Assumes nothing: these are definitions.
+-- Two rows and a range between them, and that any two proofs that a row rises are equal, which the ghost field of `Parts` needs. Assumes nothing.
 use Rattle.std.specs.Prelude.{ℕ, suc, ◌+◌, ◌-◌, ◌≤◌, List, [], ◌∷◌, length}
 use Rattle.std.specs.Coded.{Unit-prop, le_prop}
 use Rattle.lists.specs.Lists.{listed, Rising}
@@ -20,7 +20,7 @@ pub record Around (s : Settings) (front back : List ℕ) (lo hi : ℕ) : Type 0 
   pub after : Rising (suc hi) s.n back
   pub few : length front + length back ≤ 1008
 
--- a list rises in one way
+-- any two proofs that a list rises are equal
 pub Rising-prop : (lo hi : ℕ) (xs : List ℕ) → IsProp (Rising lo hi xs)
 Rising-prop lo hi [] = Unit-prop
 Rising-prop lo hi (x ∷ xs) = λ a b i. (le_prop a.0 b.0 i, le_prop a.1 b.1 i, Rising-prop (suc x) hi xs a.2 b.2 i)

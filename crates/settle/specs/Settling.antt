@@ -72,6 +72,7 @@ pub record Gathers (s : Settings) (own level : ℕ) (front back : List ℕ) (lo 
   pub fit : fits s (all_of front back lo hi) level ≡ true
   pub room : length out ≡ 504
 
+-- the two above, of rows and a range that go together
 abbrev pub PresentParts : ℕ → Parts → Type 0
 PresentParts level w = Present w.settings level w.front.now w.back.now w.lo w.hi
 
