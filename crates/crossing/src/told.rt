@@ -171,8 +171,8 @@ impl From<Estimate> for ToldDouble {
                 exact: 0,
                 value: x,
             },
-            Estimate::Refused(refusal) => ToldDouble {
-                number: refusal.into(),
+            Estimate::Refused(number) => ToldDouble {
+                number,
                 exact: 0,
                 value: 0.0,
             },

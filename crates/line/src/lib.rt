@@ -5,7 +5,7 @@ ghost use Rattle.std.specs.Prelude.{◌≡◌, ◌+◌, ◌≤◌, ◌<◌, leng
 ghost use Rattle.lists.specs.Rows.{Stored};
 ghost use Rattle.line.specs.Lines.{command_of, number};
 ghost use Rattle.line.specs.Reading.{numbers_after, row_of, asked};
-ghost use Rattle.line.specs.Texts.{decimal, text_line, text_kept, text_of};
+ghost use Rattle.line.specs.Texts.{decimal, text_line, text_kept, text_refusal, text_of};
 
 use commands::{Answer, Command, Numbers};
 use rule::Settings;
@@ -147,13 +147,21 @@ fn put_line(out: &mut [u8], at: usize, head: &[u8], v: u64) -> usize
 }
 
 // `K level cells`
-fn put_kept(out: &mut [u8], at: usize, level: u32, cells: u32) -> usize
+pub fn put_kept(out: &mut [u8], at: usize, level: u32, cells: u32) -> usize
     requires { at + 40 ≤ length out.old }
     ensures { Stored out.old at (text_kept level cells) result out.new }
 {
     let a = put_bytes(out, at, b"K ");
     let b = put_number(out, a, u64::from(level));
     put_line(out, b, b" ", u64::from(cells))
+}
+
+// `R number`
+pub fn put_refusal(out: &mut [u8], at: usize, number: u32) -> usize
+    requires { at + 40 ≤ length out.old }
+    ensures { Stored out.old at (text_refusal number) result out.new }
+{
+    put_line(out, at, b"R ", u64::from(number))
 }
 
 // An answer or a refusal as a line, from a place on.
@@ -168,6 +176,6 @@ pub fn put(out: &mut [u8], at: usize, answer: Result<Answer, Refusal>) -> usize
         Ok(Answer::Count(v)) => put_line(out, at, b"C ", u64::from(v)),
         Ok(Answer::Next(Some(cell))) => put_line(out, at, b"N ", u64::from(cell)),
         Ok(Answer::Next(None)) => put_bytes(out, at, b"N none\n"),
-        Err(refusal) => put_line(out, at, b"R ", u64::from(u32::from(refusal))),
+        Err(refusal) => put_refusal(out, at, refusal.into()),
     }
 }

@@ -1,5 +1,4 @@
 -- The laws, for this crate and for those above it.
-pub mod Chains
 pub mod Walks
 pub mod Calls
 pub mod Sampling

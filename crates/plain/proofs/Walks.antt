@@ -1,13 +1,17 @@
--- A walk over the cells lo, lo + 1, .., hi that tests each one, and stores in a row those that it finds.
+-- A walk over the cells lo, lo + 1, .., hi that tests each one.
 --     seen            what it has found before cell x
---     seen_none, seen_more    at the start, and with one more cell tested
---     one_at_most     what one cell counts
---     store_room, store_on, store_off     one more cell tested
+--     seen_none, seen_on, seen_off, seen_more    at the start, and with one more cell tested
+--     count_on, count_off     a walk that counts them
+--     store_room, store_on, store_off     a walk that stores them in a row
 --     seen_all        at the end it has found all there is
+--     seen_few        it never finds more
+--     first_here      the first one that it finds
+--     one_at_most     what one cell counts
 -- Assumes nothing.
 use mathlib.Core.Path.{◌≡◌, refl, sym, ap, ◌∙◌}
 use mathlib.Core.Bool.{Bool, true, false, cond}
 use mathlib.Core.List.{List, [], ◌∷◌, ◌++◌, append-nil}
+use Rattle.std.specs.Prelude.{Some}
 use Prim.Native.Nat.{ℕ, suc, ◌+◌, ◌-◌, ◌≤◌, ◌<◌}
 use native.Mathlib.Omega.{arith}
 use lib.ListN.{length, set, length-append}
@@ -18,6 +22,7 @@ use Rattle.lists.proofs.Runs.{run-append, range-suc}
 use Rattle.lists.proofs.Steps.{length_more}
 use Rattle.lists.proofs.Stores.{stored_more, stored_as}
 use Rattle.rule.specs.Cells.{Cells}
+use Rattle.rule.specs.Samples.{first}
 
 abbrev pub seen : Cells → ℕ → ℕ → List ℕ
 seen X lo x = filter X (run lo (x - lo))
@@ -34,7 +39,7 @@ module _ (X : Cells) (lo x hi : ℕ) (h : lo ≤ x) (w : x ≤ suc hi) where
       ap (λ (k : ℕ). filter X (run lo k)) e ∙ (rw f at (ap (filter X) (run-append (x - lo) (suc hi - x) lo)
       ∙ filter-append X (run lo (x - lo)) (run (lo + (x - lo)) (suc hi - x))))
 
-  seen_few : length (seen X lo x) ≤ length (filter X (range lo hi))
+  pub seen_few : length (seen X lo x) ≤ length (filter X (range lo hi))
   seen_few = omega (arith, ap length seen_split, length-append (seen X lo x) (filter X (range x hi)))
 
 module _ (X : Cells) (lo x : ℕ) (h : lo ≤ x) where
@@ -44,11 +49,18 @@ module _ (X : Cells) (lo x : ℕ) (h : lo ≤ x) where
       let f : lo + (x - lo) ≡ x = omega arith in
       ap (λ (k : ℕ). filter X (run lo k)) e ∙ (rw f at (range-suc X lo (x - lo)))
 
-  seen_on : X x ≡ true → seen X lo (x + 1) ≡ seen X lo x ++ (x ∷ [])
+  pub seen_on : X x ≡ true → seen X lo (x + 1) ≡ seen X lo x ++ (x ∷ [])
   seen_on t = rw t at seen-keep
 
-  seen_off : X x ≡ false → seen X lo (x + 1) ≡ seen X lo x
+  pub seen_off : X x ≡ false → seen X lo (x + 1) ≡ seen X lo x
   seen_off t = rw (t, append-nil) at seen-keep
+
+  module _ {many : ℕ} (e : many ≡ length (seen X lo x)) where
+    pub count_on : X x ≡ true → many + 1 ≡ length (seen X lo (x + 1))
+    count_on t = ap (λ (k : ℕ). k + 1) e ∙ sym (ap length (seen_on t) ∙ length_more (seen X lo x) x)
+
+    pub count_off : X x ≡ false → many ≡ length (seen X lo (x + 1))
+    count_off t = e ∙ sym (ap length (seen_off t))
 
   pub seen_more : length (seen X lo (x + 1)) ≡ length (seen X lo x) + cond (X x) 1 0
   seen_more = ap length seen-keep ∙ length-append (seen X lo x) (keep (X x) x []) ∙ ap (λ (k : ℕ). length (seen X lo x) + k) (one (X x))
@@ -56,6 +68,13 @@ module _ (X : Cells) (lo x : ℕ) (h : lo ≤ x) where
       one : (t : Bool) → length (keep t x []) ≡ cond t 1 0
       one true = refl
       one false = refl
+
+  pub first_here : (hi : ℕ) → x ≤ hi → seen X lo x ≡ [] → X x ≡ true → first (filter X (range lo hi)) ≡ Some x
+  first_here hi w nothing t =
+      let e : suc hi - x ≡ suc (hi - x) = omega arith in
+      let here : filter X (range x hi) ≡ x ∷ filter X (run (suc x) (hi - x)) = rw (e, t) in
+      let all : filter X (range lo hi) ≡ x ∷ filter X (run (suc x) (hi - x)) = seen_split X lo x hi h (omega arith) ∙ (rw nothing here) in
+      ap first all
 
   module _ {row : List ℕ} {many : ℕ} {out : List ℕ} (g : Stored row 0 (seen X lo x) many out) where
     pub store_room : (hi : ℕ) → x ≤ hi → X x ≡ true → many < length (filter X (range lo hi))

@@ -81,7 +81,12 @@ fn count_each(settings: Settings, level: u32, lo: u32, hi: u32) -> u32
 fn first_of(settings: Settings, level: u32, from: u32, last: u32) -> Option<u32>
     ensures { result ≡ next_hit settings level from last }
 {
-    (from..=last).find(|x| settings.passes(level, *x))
+    for x in from..=last {
+        if settings.passes(level, x) {
+            return Some(x);
+        }
+    }
+    None
 }
 
 // How many cells of lo..hi pass at a level.
@@ -127,8 +132,14 @@ pub fn add(sketch: Sketch, lo: u32, hi: u32) -> Changed<Refusal>
     match add_answer(sketch.good(), sketch.settings, lo, hi) {
         Ok(()) => {
             let next = added(sketch, lo, hi);
-            Changed::done(next)
+            Changed {
+                answer: Ok(()),
+                sketch: next,
+            }
         }
-        Err(refusal) => Changed::refused(refusal, sketch),
+        Err(refusal) => Changed {
+            answer: Err(refusal),
+            sketch,
+        },
     }
 }

@@ -1,5 +1,4 @@
--- The turns and the end of the walks over a row that test it or store what passes, a test of the hash that says which cells pass, and what a search by halving finds.
---     passes_test, passes_on, passes_off      a test of the hash
+-- The turns and the end of the walks over a row that test it or store what passes, and what a search by halving finds.
 --     passing-room, passing_on, passing_off       the room and the turn of `store_passing` and `keep_passing`
 --     test_on, test_end       the walks of `in_order`, `all_pass` and `zeros`
 --     none_seen      what `zeros` has seen

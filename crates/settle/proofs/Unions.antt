@@ -54,7 +54,7 @@ unfolding range_count
 alone_none s level = let e : suc s.n - (s.n + 1) ≡ 0 = omega arith in rw e
 
 module _ {s : Settings} {level : ℕ} {xs : List ℕ} (w : Alone s level xs) where
-  alone_sample : (l : ℕ) → sample s (listed xs) l ≡ filter (passes s l) xs
+  pub alone_sample : (l : ℕ) → sample s (listed xs) l ≡ filter (passes s l) xs
   unfolding between
   alone_sample l =
       let e : suc s.n - (s.n + 1) ≡ 0 = omega arith in
@@ -66,14 +66,14 @@ module _ {s : Settings} {level : ℕ} {xs : List ℕ} (w : Alone s level xs) whe
   pub alone_over : s.capacity < length xs → fits s (all_of xs [] (s.n + 1) s.n) level ≡ false
   alone_over h = settle_not w (alone_none s level) (omega arith)
 
-  alone_room : s.capacity < length xs → level + 1 ≤ top s
+  pub alone_room : s.capacity < length xs → level + 1 ≤ top s
   alone_room h = settle_room w (alone_over h)
 
   module _ (h : s.capacity < length xs) {l : ℕ} (q : l ≡ lowest s (all_of xs [] (s.n + 1) s.n) (level + 1)) where
     pub alone_next : l ≡ lowest s (listed xs) level
     alone_next = settle_next w (alone_over h) q ∙ ap (λ (X : Cells). lowest s X level) (alone_all s xs)
 
-    alone_fits : fits s (listed xs) l ≡ true
+    pub alone_fits : fits s (listed xs) l ≡ true
     alone_fits = ap (λ (X : Cells). fits s X l) (sym (alone_all s xs)) ∙ settle_fits w (alone_over h) q
 
 module _ {s : Settings} {level : ℕ} (many : ℕ) (before : List ℕ) (w : Alone s level (take many before)) (few : many ≤ length before) where

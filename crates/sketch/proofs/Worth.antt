@@ -27,7 +27,6 @@ use Rattle.rule.specs.declared.Settings.{Settings}
 use Rattle.rule.specs.Rule.{region}
 use Rattle.rule.specs.Refusals.{answered, refused, not_one}
 use Rattle.rule.proofs.Facts.{positive, small}
-use Rattle.rule.proofs.Readings.{number_one}
 use Rattle.rule.proofs.Passing.{top_small, level-within}
 use Rattle.sketch.specs.declared.Sketch.{Sketch}
 use Rattle.sketch.specs.declared.estimates.Estimate.{Estimate}
@@ -127,4 +126,4 @@ estimate_one (About x) (About y) e = cc
 estimate_one (About x) (Refused k) e = cc
 estimate_one (Refused j) (Exact w) e = cc
 estimate_one (Refused j) (About y) e = cc
-estimate_one (Refused j) (Refused k) e = ap Refused (number_one j k cc)
+estimate_one (Refused j) (Refused k) e = cc

@@ -3,7 +3,7 @@ use Rattle.std.specs.Prelude.{ℕ, ◌*◌, ◌/◌, ◌≡◌, cond, eqb, Float
 use Rattle.floats.specs.Quotients.{over, Near}
 use Rattle.rule.specs.declared.Settings.{Settings}
 use Rattle.rule.specs.Rule.{region}
-use Rattle.rule.specs.Refusals.{Outcome, answered, refused, unless, not_one, number_of}
+use Rattle.rule.specs.Refusals.{Outcome, answered, refused, unless, not_one}
 use Rattle.sketch.specs.declared.Sketch.{Sketch}
 use Rattle.sketch.specs.declared.estimates.Estimate.{Estimate}
 use Rattle.sketch.specs.declared.estimates.Estimate.TheVariants.{Exact, About, Refused}
@@ -18,7 +18,7 @@ pub data Weight : Type 0 where
 abbrev pub of_estimate : Estimate → Outcome Weight
 of_estimate (Exact v) = answered (exactly v)
 of_estimate (About x) = answered (about x)
-of_estimate (Refused refusal) = refused (number_of refusal) 0
+of_estimate (Refused number) = refused number 0
 
 -- Above level 0 so many cells kept stand for their number times p, divided by the region's size (RULES: Estimate). Their number times p:
 abbrev pub times_p : Settings → ℕ → ℕ

@@ -43,7 +43,7 @@ impl Lent<'_> {
         ensures { Estimates (held_of self.entry) result }
     {
         if !self.good() {
-            return Estimate::Refused(Refusal::NotOne);
+            return Estimate::Refused(Refusal::NotOne.into());
         }
         if self.level == 0 {
             return Estimate::Exact(self.count);

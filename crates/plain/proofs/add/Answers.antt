@@ -1,5 +1,5 @@
 -- `plain::add` meets its contract. Assumes nothing.
-use mathlib.Core.Path.{sym, ap, ◌∙◌}
+use mathlib.Core.Path.{refl, sym, ap, ◌∙◌}
 use Rattle.sketch.specs.Calls.{done_with}
 use Rattle.sketch.proofs.Facts.{sketch_facts}
 use Rattle.sketch.proofs.Handing.{hands_done, hands_refused}
@@ -15,9 +15,9 @@ added-next-requires c =
 pub returns-in-Ok : goal.returns-in-Ok
 returns-in-Ok c =
     let a = c.args in
-    hands_done _ _ _ _ (sym (plain_told a.sketch a.lo a.hi c.good.ensures c.in-Ok.ensures)) (c.done.ensures ∙ ap done_with c.added-next.ensures)
+    hands_done _ _ _ _ (sym (plain_told a.sketch a.lo a.hi c.good.ensures c.in-Ok.ensures)) (ap done_with c.added-next.ensures)
 
 pub returns-in-Err : goal.returns-in-Err
 returns-in-Err c =
     let a = c.args in
-    hands_refused _ _ _ _ _ (sym (plain_told a.sketch a.lo a.hi c.good.ensures c.in-Err.ensures)) c.refused.ensures
+    hands_refused _ _ _ _ _ (sym (plain_told a.sketch a.lo a.hi c.good.ensures c.in-Err.ensures)) refl

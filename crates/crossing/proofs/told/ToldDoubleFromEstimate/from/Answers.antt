@@ -5,4 +5,4 @@ use Rattle.crossing.proofs.told.ToldDoubleFromEstimate.from.Goals as goal
 
 pub returns-in-Refused : goal.returns-in-Refused
 unfolding of_int of_bits
-returns-in-Refused c = rw c.in-Refused.is (record { number = c.into.ensures; exact = refl; value = refl })
+returns-in-Refused c = rw c.in-Refused.is (record { number = refl; exact = refl; value = refl })
