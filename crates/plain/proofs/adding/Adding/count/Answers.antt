@@ -5,7 +5,7 @@ use native.Mathlib.Omega.{arith}
 use lib.ListN.{length}
 use Rattle.rule.specs.Samples.{passing, sample}
 use Rattle.plain.specs.Plain.{cells_of}
-use Rattle.plain.proofs.Walks.{seen, seen_none, seen_all, count_on, count_off}
+use Rattle.plain.proofs.Walks.{seen, seen_all, count_on, count_off}
 use Rattle.plain.proofs.adding.Adding.count.Goals as goal
 use Rattle.plain.proofs.adding.Adding.count.Goals.{then-samples, else-samples, Joined-samples}
 
